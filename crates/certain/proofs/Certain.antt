@@ -7,6 +7,7 @@ use native.Mathlib.Nat.{le-refl}
 use native.Mathlib.Decide.{decLt}
 use mathlib.Core.Logic.{by-cases}
 use lib.ListN.{length, length-append, List·getD-append, List·getD-eq-default}
+use Rattle.parts.specs.Bytes.{Bytes}
 use Rattle.lengths.proofs.Laws.{Taken, taken}
 use Rattle.klv.specs.Item.{Item}
 use Rattle.walk.specs.declared.Turn.{Turn}
@@ -16,7 +17,7 @@ use Rattle.walk.specs.Walk.{stepped}
 use Rattle.walk.proofs.Laws.{rule-end, rule-cut, Rule, at-end, no-key, cut-off, no-length, whole, waits, late, rule}
 use Rattle.records.specs.Records.{finished, finishedFrom, arriving}
 use Rattle.records.proofs.Stepping.{stepped-on}
-use Rattle.certain.specs.Certain.{Bytes, File, Begins, Longest, Certain, NeverUnsaid, GoesOn, NothingMore}
+use Rattle.certain.specs.Certain.{File, Begins, Longest, Certain, NeverUnsaid, GoesOn, NothingMore}
 use Rattle.certain.proofs.Held.{fin-stop, Held, held}
 use Rattle.certain.proofs.Longest.{longest-by}
 use Rattle.certain.proofs.GoingOn.{goes-on-by}

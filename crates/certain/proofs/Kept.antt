@@ -6,7 +6,7 @@ use mathlib.Core.Bool.{Bool, true, false}
 use native.Mathlib.Omega.{arith}
 use lib.ListN.{length, take, drop, length-append, length-drop}
 use lib.Seq.{take-append-le, drop-append-le}
-use Rattle.parts.proofs.Bytes.{followed}
+use Rattle.parts.proofs.Spans.{followed}
 use Rattle.labels.specs.Label.{keyAt}
 use Rattle.labels.proofs.Laws.{key-same}
 use Rattle.lengths.specs.declared.Field.{Field}

@@ -9,6 +9,7 @@ use native.Mathlib.Omega.{arith}
 use native.Mathlib.Decide.{decLt}
 use lib.ListN.{length, getD, length-append, replicate, length-replicate, getD-replicate, List·getD-eq-default, List·getD-append}
 use lib.Seq.{getD-append-add}
+use Rattle.parts.specs.Bytes.{Bytes}
 use Rattle.lengths.specs.declared.Field.{Field}
 use Rattle.lengths.specs.declared.Length.the-variants.{Is}
 use Rattle.lengths.specs.Length.{lengthAt}
@@ -21,7 +22,7 @@ use Rattle.walk.specs.Rules.{rules}
 use Rattle.walk.proofs.Laws.{Fit, rules-moves, rules-record, rule-end, rule-cut, rule-record, rule-late, Rule, at-end, no-key, cut-off, no-length, whole, waits, late, rule}
 use Rattle.records.specs.Records.{finishedListBy, arrivingListBy}
 use Rattle.records.proofs.Lists.{Onward}
-use Rattle.certain.specs.Certain.{Bytes, File, Begins, BeginsAll, Longest}
+use Rattle.certain.specs.Certain.{File, Begins, BeginsAll, Longest}
 use Rattle.certain.proofs.Kept.{key-kept, length-kept}
 use Rattle.certain.proofs.Held.{fin-stop, fin-search, fin-record, Held, held}
 

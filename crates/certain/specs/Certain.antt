@@ -1,15 +1,11 @@
 -- Demand 3: for bytes A that have arrived, within the operator's limit, the records listed are the longest list with
 -- which the finished list of every file that starts with A within the limit begins.
-use Prim.Native.Nat.{ℕ, _≤_, _<_}
+use Prim.Native.Nat.{ℕ, _≤_}
 use mathlib.Core.Path.{_≡_}
 use mathlib.Core.List.{List, _++_}
-use lib.ListN.{length, getD}
-use Rattle.klv.specs.Item.{Item}
+use lib.ListN.{length}
+use Rattle.parts.specs.Bytes.{Bytes}
 use Rattle.records.specs.Records.{finished, arriving, arrivingFrom, waitsAt}
-
--- a list of bytes
-abbrev pub Bytes : List ℕ → Type 0
-Bytes s = (i : ℕ) → getD s i 0 < 256
 
 -- a file, of bytes, that starts with a and is no longer than the limit; a itself is one, where it is within the limit
 pub record File (limit : ℕ) (a f : List ℕ) : Type 0 where
