@@ -1,0 +1,5 @@
+pub mod Round
+pub mod Halves
+pub mod Patterns
+pub mod Constants
+pub mod Whole
