@@ -3,3 +3,4 @@ pub mod Halves
 pub mod Patterns
 pub mod Constants
 pub mod Whole
+pub mod Narrows

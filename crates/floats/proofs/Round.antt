@@ -5,7 +5,7 @@ use mathlib.Core.Path.{_≡_, refl, sym, ap, _∙_, subst}
 use mathlib.Core.Logic.{_⊎_, inl, inr}
 use mathlib.Core.Bool.{Bool, true, false, not, cond}
 use Prim.Native.Nat.{ℕ, zero, suc, _+_, _-_, _*_, _/_, _%_, _^_, _≤_, _<_, compare, min}
-use native.Mathlib.Nat.{le-trans, le-of-eq, le-of-lt, lt-of-le-of-lt, lt-of-lt-of-le, lt-of-not-le, not-le-of-lt, eq-or-lt-of-le, le-of-suc-le-suc, le-of-mul-le-mul-right, mul-assoc, mul-one, mul-div-cancel, mul-le-mul-right, mul-lt-mul-of-pos-right, le-div-iff-mul-le, div-lt-iff-lt-mul, div-div-eq-div-mul, div-one, two-pow-succ, add-assoc, add-mul, suc-mul, zero-mul, zero-add, le-refl, min-eq-left, min-eq-right}
+use native.Mathlib.Nat.{le-trans, le-of-eq, le-of-lt, lt-of-le-of-lt, lt-of-lt-of-le, lt-of-not-le, not-le-of-lt, eq-or-lt-of-le, le-of-suc-le-suc, le-of-mul-le-mul-right, mul-assoc, mul-one, mul-div-cancel, mul-le-mul-right, mul-lt-mul-of-pos-right, le-div-iff-mul-le, div-lt-iff-lt-mul, div-div-eq-div-mul, div-one, two-pow-succ, add-assoc, add-mul, suc-mul, zero-mul, zero-add, le-refl, min-eq-left, min-eq-right, min-le-right}
 use native.Mathlib.Omega.{arith}
 use lib.Dec.{T, ltb, ltb→lt, nltb→le, lit<}
 use lib.Arith.{le→nltb}
@@ -178,3 +178,8 @@ module _ (f : Format) (s : Bool) (a c k : ℕ) (C : 0 < c) (hi : a * 2 ^ low f <
 
   pub round-bits : round f s a c ≡ ofBits f (cond s (top f) 0 + packed f k q)
   round-bits = sym (ofBits-toBits f (round f s a c) (round-fits f s a c)) ∙ ap (ofBits f) bits-are
+
+-- no pattern is above infinity's
+pub packed-le : (f : Format) (k q : ℕ) → packed f k q ≤ ones f * hid f
+unfolding packed
+packed-le f k q = min-le-right (k * hid f + q) (ones f * hid f)

@@ -120,7 +120,11 @@ pub fn f32_bits(x: f32) -> u32
 pub fn f64_bits(x: f64) -> u64
     ensures { λ r. ⌜ r ≡ toBits binary64 x ⌝ }
 {
-    if x != x { 0x7ff8_0000_0000_0000 } else { f64::to_bits(x) }
+    if x != x {
+        0x7ff8_0000_0000_0000
+    } else {
+        f64::to_bits(x)
+    }
 }
 
 // Whether the f32 that has these bits is finite.

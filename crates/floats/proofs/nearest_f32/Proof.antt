@@ -1,41 +1,46 @@
+-- `floats::nearest_f32` meets its contract: the count of leading zeros gives the rounding law's k. Assumes nothing.
+use mathlib.Core.Path.{_≡_, sym, ap, _∙_, subst⁻¹}
+use Prim.Native.Nat.{ℕ, _+_, _-_, _*_, _%_, _^_, _≤_, _<_}
+use native.Mathlib.Omega.{arith}
+use lib.Count.{leadingZeros}
+use lib.Ieee.{binary32, ofInt, ofBits}
 use borrow.Author.Needs.{needs}
+use Rattle.floats.specs.Rounding.{nearestF32}
+use Rattle.floats.proofs.Round.{packed-le}
+use Rattle.floats.proofs.Patterns.{no-nan}
+use Rattle.floats.proofs.Whole.{of-zeros}
 use Rattle.floats.proofs.nearest_f32.Statement.{statement}
 use Rattle.floats.proofs.nearest_f32.Tie as tie
-use Rattle.floats.proofs.nearest_f32.Reads as reads
-use Rattle.floats.proofs.nearest_f32.Lts as lts
-use Rattle.floats.proofs.packed_f32.Reads as packed-f32-reads
 
--- src/lib.rt:47:9
+positive : (c : tie.Else1) → 0 < c .before .args .v
+positive c = omega (arith, c .if1 .left)
+
 returns : tie.Need-returns
-returns c = ?
+unfolding nearestF32 ofInt ofBits
+returns c = ap nearestF32 (sym (c .if1 .taken))
 
--- src/lib.rt:50:18
 mul-digits : tie.Need-mul-digits
 mul-digits c = search needs
 
--- src/lib.rt:51:32
 sub-packed-f32 : tie.Need-sub-packed-f32
-sub-packed-f32 c = ?
+sub-packed-f32 c = omega (arith, of-zeros (c .before .args .v) (positive c) (c .before .fits .v .fits) .0)
 
--- src/lib.rt:51:31
 cast-packed-f32 : tie.Need-cast-packed-f32
 cast-packed-f32 c = search needs
 
--- src/lib.rt:51:61
 sub-packed-f32-2 : tie.Need-sub-packed-f32-2
-sub-packed-f32-2 c = ?
+sub-packed-f32-2 c = omega (arith, of-zeros (c .before .args .v) (positive c) (c .before .fits .v .fits) .0)
 
--- src/lib.rt:51:20
 packed-f32-requires : tie.Need-packed-f32-requires
 packed-f32-requires c κs = search needs
 
--- src/lib.rt:51:5
 float-from-bits-result : tie.Need-float-from-bits-result
-float-from-bits-result c = ?
+float-from-bits-result c = no-nan binary32 (c .packed-f32 .result) (omega (arith, subst⁻¹ (λ (n : ℕ). n ≤ 2139095040) (c .packed-f32 .ensures) (packed-le binary32 _ _)))
 
--- src/lib.rt:43:1
 returns-2 : tie.Need-returns-2
-returns-2 c = ?
+returns-2 c =
+    let s = c .before .before in
+    ap (ofBits binary32) (c .packed-f32 .ensures) ∙ sym (of-zeros (s .args .v) (positive (c .before)) (s .fits .v .fits) .1)
 
 pub nearest-f32-spec : {M : Type 1} → statement M
 nearest-f32-spec =
