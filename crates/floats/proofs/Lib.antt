@@ -4,3 +4,5 @@ pub mod Patterns
 pub mod Constants
 pub mod Whole
 pub mod Narrows
+pub mod Exact
+pub mod Starred

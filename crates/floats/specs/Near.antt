@@ -1,9 +1,13 @@
--- Closeness of a float to a whole number.
+-- Floats that are whole numbers, and how near they are to others.
 use Prim.Native.Nat.{ℕ, _+_, _≤_}
 use mathlib.Core.Bool.{false}
 use lib.Ieee.{Float}
 use lib.Ieee.Exact.{HasValue}
 
--- x is a whole number n, and n is within d of v
+-- x is the whole number n
+abbrev pub Is : Float → ℕ → Type 0
+Is x n = HasValue x false n 1
+
+-- x is a whole number that is within d of v
 abbrev pub Near : ℕ → Float → ℕ → Type 0
-Near d x v = (n : ℕ) × HasValue x false n 1 × (n ≤ v + d) × (v ≤ n + d)
+Near d x v = (n : ℕ) × Is x n × (n ≤ v + d) × (v ≤ n + d)
