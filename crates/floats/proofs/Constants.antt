@@ -1,6 +1,5 @@
 -- The constants of the code, which it has by their bits, are the numbers that the definitions name. Assumes nothing.
 use mathlib.Core.Path.{_≡_, refl}
-use Prim.Native.Nat.{ℕ}
 use lib.IntN.{pos}
 use lib.Ieee.{binary32, binary64, ofBits, ofInt, round}
 use Rattle.floats.specs.Quotients.{decimal}

@@ -1,14 +1,13 @@
 -- A u32 as an f32: z leading zeros leave 32 - z digits, so that 157 - z digits are dropped of the number in units of the smallest f32, which is the
 -- rounding law's k; and the f32 is within 128. Assumes nothing.
 use mathlib.Core.Path.{_≡_, refl, sym, ap, _∙_, subst}
-use mathlib.Core.Logic.{_⊎_, inl, inr}
+use mathlib.Core.Logic.{inr}
 use mathlib.Core.Bool.{Bool, true, false, not}
 use Prim.Native.Nat.{ℕ, suc, _+_, _-_, _*_, _^_, _≤_, _<_}
 use native.Mathlib.Nat.{le-trans, le-of-eq, le-of-lt, le-antisymm, lt-of-lt-of-le, lt-of-le-of-lt, lt-of-not-le, not-le-of-lt, le-of-mul-le-mul-right, mul-assoc, mul-one, one-mul, mul-right-comm, mul-le-mul-right, mul-lt-mul-of-pos-right, zero-lt-suc, zero-add}
 use native.Mathlib.Omega.{arith}
 use lib.Count.{leadingZeros, leading-top}
-use lib.Dec.{T, leb, leb→le, nleb→lt, lit<}
-use lib.IntN.{pos}
+use lib.Dec.{T, leb, leb→le, nleb→lt}
 use lib.Pow.{pow-add, pow-pos, pow-mono, pow-lt}
 use lib.Ieee.{Float, nan, inf, fin, binary32, up, down, round, ofInt, ofBits}
 use lib.Ieee.Back.{round-whole}

@@ -1,9 +1,6 @@
 -- `floats::f32_bits` meets its contract: only a NaN differs from itself. Assumes nothing.
 use mathlib.Core.Path.{sym, ap}
-use mathlib.Core.Bool.{true}
-use lib.Dec.{T}
-use lib.Ieee.{binary32, toBits, ne}
-use lib.Ieee.Compare.{differs-from-itself}
+use lib.Ieee.{binary32, toBits}
 use borrow.Author.Needs.{needs}
 use Rattle.floats.proofs.Patterns.{not-nan, is-itself}
 use Rattle.floats.proofs.f32_bits.Statement.{statement}

@@ -1,5 +1,5 @@
 -- `floats::finite_f64` meets its contract: the finite values are those below infinity's pattern. Assumes nothing.
-use mathlib.Core.Path.{_≡_, sym, ap, _∙_}
+use mathlib.Core.Path.{sym, ap, _∙_}
 use Prim.Native.Nat.{ℕ, _*_, _%_}
 use lib.Dec.{T, ltb}
 use lib.Ieee.{binary64, fits, ones, hid, top}

@@ -1,7 +1,5 @@
 -- `floats::milliseconds` meets its contract: one product after one quotient. Assumes nothing.
-use lib.Ieee.{binary64, mul}
-use mathlib.Core.Path.{_∙_, ap}
-use Rattle.floats.specs.Quotients.{ratio, milliseconds}
+use Rattle.floats.specs.Quotients.{milliseconds}
 use Rattle.floats.proofs.Constants.{thousand64}
 use borrow.Author.Needs.{needs}
 use Rattle.floats.proofs.milliseconds.Statement.{statement}

@@ -1,8 +1,7 @@
 -- `floats::nearest_f32` meets its contract: the count of leading zeros gives the rounding law's k. Assumes nothing.
-use mathlib.Core.Path.{_≡_, sym, ap, _∙_, subst⁻¹}
-use Prim.Native.Nat.{ℕ, _+_, _-_, _*_, _%_, _^_, _≤_, _<_}
+use mathlib.Core.Path.{sym, ap, _∙_, subst⁻¹}
+use Prim.Native.Nat.{ℕ, _≤_, _<_}
 use native.Mathlib.Omega.{arith}
-use lib.Count.{leadingZeros}
 use lib.Ieee.{binary32, ofInt, ofBits}
 use borrow.Author.Needs.{needs}
 use Rattle.floats.specs.Rounding.{nearestF32}
