@@ -4,9 +4,9 @@ use mathlib.Core.Path.{_≡_, refl, sym, ap, _∙_, subst}
 use mathlib.Core.Logic.{_⊎_, inl, inr}
 use mathlib.Core.Bool.{Bool, true, false, not, cond}
 use Prim.Native.Nat.{ℕ, zero, suc, _+_, _-_, _*_, _/_, _%_, _^_, _≤_, _<_, min}
-use native.Mathlib.Nat.{le-trans, le-of-eq, lt-of-le-of-lt, lt-of-lt-of-le, add-comm, mod-eq-of-lt, mod-lt, div-eq-of-lt, mul-le-mul-right, mul-lt-mul-of-pos-right, min-eq-left, min-eq-right}
+use native.Mathlib.Nat.{le-trans, le-of-eq, lt-of-le-of-lt, lt-of-lt-of-le, add-comm, mod-eq-of-lt, mod-lt, div-eq-of-lt, mul-le-mul-right, mul-lt-mul-of-pos-right, mul-pos, min-eq-left, min-eq-right}
 use native.Mathlib.Omega.{arith}
-use lib.Dec.{T, leb, eqb, ltb, ltb→lt, nltb→le}
+use lib.Dec.{T, leb, leb→le, nleb→lt, eqb, ltb, ltb→lt, nltb→le}
 use lib.Pow.{pow-add, pow-pos, pow-mono}
 use lib.Ieee.{Float, nan, inf, fin, binary32, binary64, up, down, odd, round, ofFields, ofBits, toBits, isNan, fits}
 use lib.Ieee.Bits.{ofBits-toBits}
@@ -22,42 +22,42 @@ use Rattle.floats.proofs.Whole.{times}
 
 -- ---- rounding M * 2 ^ g of the smallest f64
 module _ (s : Bool) (M g : ℕ) (hi : M < 2 ^ 53) (lo : 897 ≤ suc g → 2 ^ 52 ≤ M) where
-  k : ℕ
+  abbrev k : ℕ
   k = suc g - 897
 
-  d : ℕ
+  abbrev d : ℕ
   d = 29 + (897 - suc g)
 
+  -- M * 2 ^ g in units of the smallest f32, but for the factor 2 ^ 1074
+  in-units : M * 2 ^ g * 2 ^ 149 ≡ M * 2 ^ (g + 149)
+  in-units = times M g 149 (g + 149) refl
+
   high : M * 2 ^ g * 2 ^ 149 < 2 ^ (24 + k) * 2 ^ 1074
-  unfolding k
   high =
-      lt-of-le-of-lt (le-of-eq (times M g 149 (g + 149) refl))
+      lt-of-le-of-lt (le-of-eq in-units)
       (lt-of-lt-of-le (mul-lt-mul-of-pos-right hi (pow-pos (g + 149)))
-      (le-trans (le-of-eq (sym (pow-add 2 53 (g + 149)))) (le-trans (pow-mono {i = 53 + (g + 149)} {j = 24 + (suc g - 897) + 1074} (omega arith)) (le-of-eq (pow-add 2 (24 + (suc g - 897)) 1074)))))
+      (le-trans (le-of-eq (sym (pow-add 2 53 (g + 149)))) (le-trans (pow-mono {i = 53 + (g + 149)} {j = 24 + k + 1074} (omega arith)) (le-of-eq (pow-add 2 (24 + k) 1074)))))
 
   low-end : (k ≡ 0) ⊎ (2 ^ 23 * 2 ^ k * 2 ^ 1074 ≤ M * 2 ^ g * 2 ^ 149)
-  unfolding k
-  low-end = go (leb 897 (suc g)) (lib.Dec.leb→le 897 (suc g)) (lib.Dec.nleb→lt 897 (suc g))
+  low-end = go (leb 897 (suc g)) (leb→le 897 (suc g)) (nleb→lt 897 (suc g))
     where
-      go : (b : Bool) → (T b → 897 ≤ suc g) → (T (not b) → suc g < 897) → (suc g - 897 ≡ 0) ⊎ (2 ^ 23 * 2 ^ (suc g - 897) * 2 ^ 1074 ≤ M * 2 ^ g * 2 ^ 149)
+      go : (b : Bool) → (T b → 897 ≤ suc g) → (T (not b) → suc g < 897) → (k ≡ 0) ⊎ (2 ^ 23 * 2 ^ k * 2 ^ 1074 ≤ M * 2 ^ g * 2 ^ 149)
       go false y n = inl (omega (arith, n tt))
       go true y n =
           let h = y tt in
-          let e : 2 ^ 23 * 2 ^ (suc g - 897) * 2 ^ 1074 ≡ 2 ^ 52 * 2 ^ (g + 149) =
-          times (2 ^ 23) (suc g - 897) 1074 (g + 149 + 29) (omega arith) ∙ sym (pow-add 2 23 (g + 149 + 29)) ∙ ap (λ (x : ℕ). 2 ^ x) (omega arith) ∙ pow-add 2 52 (g + 149) in
-          inr (le-trans (le-of-eq e) (le-trans (mul-le-mul-right (2 ^ (g + 149)) (lo h)) (le-of-eq (sym (times M g 149 (g + 149) refl)))))
+          let e : 2 ^ 23 * 2 ^ k * 2 ^ 1074 ≡ 2 ^ 52 * 2 ^ (g + 149) =
+          times (2 ^ 23) k 1074 (g + 178) (omega arith) ∙ sym (pow-add 2 23 (g + 178)) ∙ ap (λ (x : ℕ). 2 ^ x) (omega arith) ∙ pow-add 2 52 (g + 149) in
+          inr (le-trans (le-of-eq e) (le-trans (mul-le-mul-right (2 ^ (g + 149)) (lo h)) (le-of-eq (sym in-units))))
 
   same-kept : closest (M * 2 ^ g * 2 ^ 149) (2 ^ 1074 * 2 ^ k) ≡ closest M (2 ^ d)
-  unfolding k d
   same-kept =
-      closest-same (M * 2 ^ g * 2 ^ 149) (2 ^ 1074 * 2 ^ (suc g - 897)) M (2 ^ (29 + (897 - suc g))) (subst (λ (x : ℕ). 0 < x) (pow-add 2 1074 (suc g - 897)) (pow-pos (1074 + (suc g - 897)))) (pow-pos (29 + (897 - suc g)))
-      (ap (λ (x : ℕ). x * 2 ^ (29 + (897 - suc g))) (times M g 149 (g + 149) refl) ∙ times M (g + 149) (29 + (897 - suc g)) (1074 + (suc g - 897)) (omega arith) ∙ ap (λ (x : ℕ). M * x) (pow-add 2 1074 (suc g - 897)))
+      closest-same (M * 2 ^ g * 2 ^ 149) (2 ^ 1074 * 2 ^ k) M (2 ^ d) (mul-pos (pow-pos 1074) (pow-pos k)) (pow-pos d)
+      (ap (λ (x : ℕ). x * 2 ^ d) in-units ∙ times M (g + 149) d (1074 + k) (omega arith) ∙ ap (λ (x : ℕ). M * x) (pow-add 2 1074 k))
 
-  narrowed : round binary32 s (M * 2 ^ g) (2 ^ 1074) ≡ ofBits binary32 (cond s (2 ^ 31) 0 + packed binary32 (suc g - 897) (closest M (2 ^ (29 + (897 - suc g)))))
-  unfolding k d
+  narrowed : round binary32 s (M * 2 ^ g) (2 ^ 1074) ≡ ofBits binary32 (cond s (2 ^ 31) 0 + packed binary32 k (closest M (2 ^ d)))
   narrowed =
-      round-bits binary32 s (M * 2 ^ g) (2 ^ 1074) (suc g - 897) (pow-pos 1074) high low-end
-      ∙ ap (λ (q : ℕ). ofBits binary32 (cond s (2 ^ 31) 0 + packed binary32 (suc g - 897) q)) same-kept
+      round-bits binary32 s (M * 2 ^ g) (2 ^ 1074) k (pow-pos 1074) high low-end
+      ∙ ap (λ (q : ℕ). ofBits binary32 (cond s (2 ^ 31) 0 + packed binary32 k q)) same-kept
 
 -- ---- what the fields of an f64 say
 abbrev lead : ℕ → ℕ → ℕ
