@@ -17,8 +17,7 @@ use lib.Ieee.Scale.{round-same}
 use borrow.Author.Tests.{eqb-true}
 use Rattle.floats.specs.Rounding.{narrowF32, packed}
 use Rattle.floats.proofs.Halves.{below-half}
-use Rattle.floats.proofs.Round.{round-bits}
-use Rattle.floats.proofs.Whole.{times}
+use Rattle.floats.proofs.Round.{times, round-bits}
 
 -- ---- rounding M * 2 ^ g of the smallest f64
 module _ (s : Bool) (M g : ℕ) (hi : M < 2 ^ 53) (lo : 897 ≤ suc g → 2 ^ 52 ≤ M) where

@@ -5,7 +5,7 @@ use mathlib.Core.Path.{_≡_, refl, sym, ap, _∙_, subst}
 use mathlib.Core.Logic.{_⊎_, inl, inr}
 use mathlib.Core.Bool.{Bool, true, false, not, cond}
 use Prim.Native.Nat.{ℕ, suc, _+_, _-_, _*_, _/_, _%_, _^_, _≤_, _<_, compare, min}
-use native.Mathlib.Nat.{le-trans, le-of-eq, lt-of-le-of-lt, lt-of-lt-of-le, lt-of-not-le, not-le-of-lt, eq-or-lt-of-le, le-of-suc-le-suc, le-of-mul-le-mul-right, mul-div-cancel, mul-le-mul-right, mul-lt-mul-of-pos-right, le-div-iff-mul-le, div-lt-iff-lt-mul, div-div-eq-div-mul, two-pow-succ, add-assoc, add-mul, suc-mul, min-eq-left, min-eq-right, min-le-right}
+use native.Mathlib.Nat.{le-trans, le-of-eq, lt-of-le-of-lt, lt-of-lt-of-le, lt-of-not-le, not-le-of-lt, eq-or-lt-of-le, le-of-suc-le-suc, le-of-mul-le-mul-right, mul-assoc, mul-div-cancel, mul-le-mul-right, mul-lt-mul-of-pos-right, le-div-iff-mul-le, div-lt-iff-lt-mul, div-div-eq-div-mul, two-pow-succ, add-assoc, add-mul, suc-mul, min-eq-left, min-eq-right, min-le-right}
 use native.Mathlib.Omega.{arith}
 use lib.Dec.{T, ltb, ltb→lt, nltb→le, lit<}
 use lib.Arith.{le→nltb}
@@ -25,6 +25,9 @@ exp-lt i j h = lt-of-not-le (λ (g : j ≤ i). not-le-of-lt h (pow-mono g))
 
 exp-le : (i j : ℕ) → 2 ^ i ≤ 2 ^ j → i ≤ j
 exp-le i j h = le-of-suc-le-suc (lt-of-not-le (λ (g : suc j ≤ i). not-le-of-lt (pow-lt g) h))
+
+pub times : (m a b c : ℕ) → a + b ≡ c → m * 2 ^ a * 2 ^ b ≡ m * 2 ^ c
+times m a b c e = mul-assoc m (2 ^ a) (2 ^ b) ∙ ap (λ (x : ℕ). m * x) (sym (pow-add 2 a b) ∙ ap (λ (x : ℕ). 2 ^ x) e)
 
 -- w has k digits more than suc p, or none more
 place : (w p k : ℕ) → w < 2 ^ (suc p + k) → (k ≡ 0) ⊎ (2 ^ (p + k) ≤ w) → size w - suc p ≡ k
@@ -87,9 +90,18 @@ module _ (p k q : ℕ) (K : Kept p k q) where
         go (inr g) (inr l) = omega (arith, mul-le-mul-right (2 ^ p) g, suc-mul t (2 ^ p), add-mul t 2 (2 ^ p))
 
 -- ---- formats: suc p digits, of which the largest values drop t
-widths : (f : Format) → (p : ℕ) × (t : ℕ) × (prec f ≡ suc p) × (hid f ≡ 2 ^ p) × (ones f ≡ t + 2) × (overflow f ≡ 2 ^ (suc p + t)) × (0 < t)
-widths binary32 = (23, 253, refl, refl, refl, refl, lit< tt)
-widths binary64 = (52, 2045, refl, refl, refl, refl, lit< tt)
+record Widths (f : Format) : Type 0 where
+  pub p : ℕ
+  pub t : ℕ
+  pub digits : prec f ≡ suc p
+  pub weight : hid f ≡ 2 ^ p
+  pub largest : ones f ≡ t + 2
+  pub limit : overflow f ≡ 2 ^ (suc p + t)
+  pub some : 0 < t
+
+widths : (f : Format) → Widths f
+widths binary32 = record { p = 23; t = 253; digits = refl; weight = refl; largest = refl; limit = refl; some = lit< tt }
+widths binary64 = record { p = 52; t = 2045; digits = refl; weight = refl; largest = refl; limit = refl; some = lit< tt }
 
 -- the bits of a finite value, from its size in the format's smallest values
 bits-of : (f : Format) (x : Float) (s : Bool) (n : ℕ) → HasValue x s n (2 ^ low f)
@@ -108,71 +120,78 @@ beyond : (f : Format) (s : Bool) (q k : ℕ) → overflow f ≤ q * 2 ^ k → un
 unfolding units
 beyond f s q k h = cond-no (ltb (q * 2 ^ k) (overflow f)) (odd (suc (prec f)) s q k (low f)) (inf s) (le→nltb (q * 2 ^ k) (overflow f) h)
 
--- ---- `round`
+-- ---- `round`: a / c is n / c of the format's smallest values, of whose whole part k digits are dropped
 module _ (f : Format) (s : Bool) (a c k : ℕ) (C : 0 < c) (hi : a * 2 ^ low f < 2 ^ (prec f + k) * c) (lo : (k ≡ 0) ⊎ (hid f * 2 ^ k * c ≤ a * 2 ^ low f)) where
-  abbrev p : ℕ
-  p = widths f .0
+  abbrev w : Widths f
+  w = widths f
+
+  abbrev n : ℕ
+  n = a * 2 ^ low f
+
+  abbrev u : ℕ
+  u = c * 2 ^ k
 
   abbrev q : ℕ
-  q = closest (a * 2 ^ low f) (c * 2 ^ k)
+  q = closest n u
 
-  whole-low : (k ≡ 0) ⊎ (hid f * 2 ^ k * c ≤ a * 2 ^ low f) → (k ≡ 0) ⊎ (2 ^ (p + k) ≤ a * 2 ^ low f / c)
-  whole-low (inl e) = inl e
-  whole-low (inr l) = inr (le-div-iff-mul-le C .1 (le-trans (le-of-eq (ap (λ (x : ℕ). x * c) (pow-add 2 p k ∙ ap (λ (x : ℕ). x * 2 ^ k) (sym (widths f .3))))) l))
+  whole-high : n / c < 2 ^ (suc (w .p) + k)
+  whole-high = div-lt-iff-lt-mul C .1 (subst (λ (x : ℕ). n < 2 ^ (x + k) * c) (w .digits) hi)
 
-  whole-high : a * 2 ^ low f / c < 2 ^ (suc p + k)
-  whole-high = div-lt-iff-lt-mul C .1 (subst (λ (x : ℕ). a * 2 ^ low f < 2 ^ (x + k) * c) (widths f .2) hi)
-
-  dropped : size (a * 2 ^ low f / c) - prec f ≡ k
-  dropped = ap (λ (x : ℕ). size (a * 2 ^ low f / c) - x) (widths f .2) ∙ place (a * 2 ^ low f / c) p k whole-high (whole-low lo)
+  whole-low : (k ≡ 0) ⊎ (2 ^ (w .p + k) ≤ n / c)
+  whole-low = go lo
+    where
+      go : (k ≡ 0) ⊎ (hid f * 2 ^ k * c ≤ n) → (k ≡ 0) ⊎ (2 ^ (w .p + k) ≤ n / c)
+      go (inl e) = inl e
+      go (inr l) = inr (le-div-iff-mul-le C .1 (le-trans (le-of-eq (ap (λ (x : ℕ). x * c) (pow-add 2 (w .p) k ∙ ap (λ (x : ℕ). x * 2 ^ k) (sym (w .weight))))) l))
 
   is-units : round f s a c ≡ units f s q k
-  is-units = round-is f s a c ∙ ap (λ (x : ℕ). units f s (closest (a * 2 ^ low f) (c * 2 ^ x)) x) dropped
+  is-units =
+      let dropped : size (n / c) - prec f ≡ k = ap (λ (x : ℕ). size (n / c) - x) (w .digits) ∙ place (n / c) (w .p) k whole-high whole-low in
+      round-is f s a c ∙ ap (λ (x : ℕ). units f s (closest n (c * 2 ^ x)) x) dropped
 
-  is-kept : Kept p k q
+  is-kept : Kept (w .p) k q
   is-kept = (
-    le-trans (nearest-le (a * 2 ^ low f / (c * 2 ^ k)) (compare (a * 2 ^ low f % (c * 2 ^ k) * 2) (c * 2 ^ k)))
-        (subst (λ (x : ℕ). x < 2 ^ suc p) split (div-lt-iff-lt-mul (pow-pos k) .1 (lt-of-lt-of-le whole-high (le-of-eq (pow-add 2 (suc p) k))))),
-    go (whole-low lo),
+    le-trans (nearest-le (n / u) (compare (n % u * 2) u)) (subst (λ (x : ℕ). x < 2 ^ suc (w .p)) split (div-lt-iff-lt-mul (pow-pos k) .1 (lt-of-lt-of-le whole-high (le-of-eq (pow-add 2 (suc (w .p)) k))))),
+    go whole-low,
   )
     where
-      split : a * 2 ^ low f / c / 2 ^ k ≡ a * 2 ^ low f / (c * 2 ^ k)
-      split = div-div-eq-div-mul (a * 2 ^ low f) c (2 ^ k)
+      split : n / c / 2 ^ k ≡ n / u
+      split = div-div-eq-div-mul n c (2 ^ k)
 
-      go : (k ≡ 0) ⊎ (2 ^ (p + k) ≤ a * 2 ^ low f / c) → (k ≡ 0) ⊎ (2 ^ p ≤ q)
+      go : (k ≡ 0) ⊎ (2 ^ (w .p + k) ≤ n / c) → (k ≡ 0) ⊎ (2 ^ w .p ≤ q)
       go (inl e) = inl e
       go (inr l) =
-          inr (le-trans (subst (λ (x : ℕ). 2 ^ p ≤ x) split (le-div-iff-mul-le (pow-pos k) .1 (le-trans (le-of-eq (sym (pow-add 2 p k))) l)))
-          (nearest-ge (a * 2 ^ low f / (c * 2 ^ k)) (compare (a * 2 ^ low f % (c * 2 ^ k) * 2) (c * 2 ^ k))))
+          inr (le-trans (subst (λ (x : ℕ). 2 ^ w .p ≤ x) split (le-div-iff-mul-le (pow-pos k) .1 (le-trans (le-of-eq (sym (pow-add 2 (w .p) k))) l)))
+          (nearest-ge (n / u) (compare (n % u * 2) u)))
 
   -- below the overflow it is q * 2 ^ k of the smallest values
   pub round-value : q * 2 ^ k < overflow f → HasValue (round f s a c) s (q * 2 ^ k) (2 ^ low f)
   round-value h = subst (λ (x : Float). HasValue x s (q * 2 ^ k) (2 ^ low f)) (sym is-units) (units-val f s q k h)
 
   -- by the digits of q * 2 ^ k itself
-  own : (P H : ℕ) → P ≡ suc p → H ≡ 2 ^ p → (size (q * 2 ^ k) - P) * H + q * 2 ^ k / 2 ^ (size (q * 2 ^ k) - P) ≡ k * H + q
+  own : (P H : ℕ) → P ≡ suc (w .p) → H ≡ 2 ^ w .p → (size (q * 2 ^ k) - P) * H + q * 2 ^ k / 2 ^ (size (q * 2 ^ k) - P) ≡ k * H + q
   own P H e h =
       subst (λ (x : ℕ). (size (q * 2 ^ k) - x) * H + q * 2 ^ k / 2 ^ (size (q * 2 ^ k) - x) ≡ k * H + q) (sym e)
-      (subst (λ (x : ℕ). (size (q * 2 ^ k) - suc p) * x + q * 2 ^ k / 2 ^ (size (q * 2 ^ k) - suc p) ≡ k * x + q) (sym h) (regains p k q is-kept))
+      (subst (λ (x : ℕ). (size (q * 2 ^ k) - suc (w .p)) * x + q * 2 ^ k / 2 ^ (size (q * 2 ^ k) - suc (w .p)) ≡ k * x + q) (sym h) (regains (w .p) k q is-kept))
 
   bits-are : toBits f (round f s a c) ≡ cond s (top f) 0 + packed f k q
   unfolding packed toBits
   bits-are = go (ltb (q * 2 ^ k) (overflow f)) (ltb→lt (q * 2 ^ k) (overflow f)) (nltb→le (q * 2 ^ k) (overflow f))
     where
-      most : ones f * hid f ≡ (widths f .1 + 2) * 2 ^ p
-      most = ap (λ (x : ℕ). x * hid f) (widths f .4) ∙ ap (λ (x : ℕ). (widths f .1 + 2) * x) (widths f .3)
+      most : ones f * hid f ≡ (w .t + 2) * 2 ^ w .p
+      most = ap (λ (x : ℕ). x * hid f) (w .largest) ∙ ap (λ (x : ℕ). (w .t + 2) * x) (w .weight)
 
-      sum : k * hid f + q ≡ k * 2 ^ p + q
-      sum = ap (λ (x : ℕ). k * x + q) (widths f .3)
+      sum : k * hid f + q ≡ k * 2 ^ w .p + q
+      sum = ap (λ (x : ℕ). k * x + q) (w .weight)
 
       go : (b : Bool) → (T b → q * 2 ^ k < overflow f) → (T (not b) → overflow f ≤ q * 2 ^ k)
           → toBits f (round f s a c) ≡ cond s (top f) 0 + min (k * hid f + q) (ones f * hid f)
       go true l g =
-          let h : k * hid f + q ≤ ones f * hid f = omega (arith, under p k q is-kept (widths f .1) (subst (λ (x : ℕ). q * 2 ^ k < x) (widths f .5) (l tt)), most, sum) in
+          let h : k * hid f + q ≤ ones f * hid f = omega (arith, under (w .p) k q is-kept (w .t) (subst (λ (x : ℕ). q * 2 ^ k < x) (w .limit) (l tt)), most, sum) in
           bits-of f (round f s a c) s (q * 2 ^ k) (round-value (l tt))
-          ∙ ap (λ (x : ℕ). cond s (top f) 0 + x) (own (prec f) (hid f) (widths f .2) (widths f .3) ∙ sym (min-eq-left h))
+          ∙ ap (λ (x : ℕ). cond s (top f) 0 + x) (own (prec f) (hid f) (w .digits) (w .weight) ∙ sym (min-eq-left h))
       go false l g =
-          let h : ones f * hid f ≤ k * hid f + q = omega (arith, over p k q is-kept (widths f .1) (widths f .6) (subst (λ (x : ℕ). x ≤ q * 2 ^ k) (widths f .5) (g tt)), most, sum) in
+          let h : ones f * hid f ≤ k * hid f + q = omega (arith, over (w .p) k q is-kept (w .t) (w .some) (subst (λ (x : ℕ). x ≤ q * 2 ^ k) (w .limit) (g tt)), most, sum) in
           ap (toBits f) (is-units ∙ beyond f s q k (g tt)) ∙ ap (λ (x : ℕ). cond s (top f) 0 + x) (sym (min-eq-right h))
 
   pub round-bits : round f s a c ≡ ofBits f (cond s (top f) 0 + packed f k q)

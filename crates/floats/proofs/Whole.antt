@@ -4,7 +4,7 @@ use mathlib.Core.Path.{_≡_, refl, sym, ap, _∙_, subst}
 use mathlib.Core.Logic.{inr}
 use mathlib.Core.Bool.{Bool, true, false, not}
 use Prim.Native.Nat.{ℕ, suc, _+_, _-_, _*_, _^_, _≤_, _<_}
-use native.Mathlib.Nat.{le-trans, le-of-eq, le-of-lt, le-antisymm, lt-of-lt-of-le, lt-of-le-of-lt, lt-of-not-le, not-le-of-lt, le-of-mul-le-mul-right, mul-assoc, mul-one, one-mul, mul-right-comm, mul-le-mul-right, mul-lt-mul-of-pos-right, zero-lt-suc, zero-add}
+use native.Mathlib.Nat.{le-trans, le-of-eq, le-of-lt, le-antisymm, lt-of-lt-of-le, lt-of-le-of-lt, lt-of-not-le, not-le-of-lt, le-of-mul-le-mul-right, mul-one, one-mul, mul-right-comm, mul-le-mul-right, mul-lt-mul-of-pos-right, zero-lt-suc, zero-add}
 use native.Mathlib.Omega.{arith}
 use lib.Count.{leadingZeros, leading-top}
 use lib.Dec.{T, leb, leb→le, nleb→lt}
@@ -17,10 +17,7 @@ use lib.Ieee.Scale.{overflow}
 use Rattle.floats.specs.Rounding.{nearestF32, packed}
 use Rattle.floats.specs.Near.{Near}
 use Rattle.floats.proofs.Halves.{within, at-most}
-use Rattle.floats.proofs.Round.{round-bits, round-value}
-
-pub times : (m a b c : ℕ) → a + b ≡ c → m * 2 ^ a * 2 ^ b ≡ m * 2 ^ c
-times m a b c e = mul-assoc m (2 ^ a) (2 ^ b) ∙ ap (λ (x : ℕ). m * x) (sym (pow-add 2 a b) ∙ ap (λ (x : ℕ). 2 ^ x) e)
+use Rattle.floats.proofs.Round.{times, round-bits, round-value}
 
 module _ (v z j : ℕ) (Z : z + suc j ≡ 32) (lo : 2 ^ j ≤ v) (hi : v < 2 ^ suc j) where
   high : v * 2 ^ 149 < 2 ^ (24 + (157 - z)) * 1
