@@ -1,7 +1,7 @@
 -- A fraction's nearest whole number, by how twice the remainder compares with the divisor; and how near it is. Assumes nothing.
-use mathlib.Core.Path.{_≡_, refl, subst}
+use mathlib.Core.Path.{_≡_, refl, sym, _∙_, subst}
 use Prim.Native.Nat.{ℕ, zero, suc, _+_, _*_, _/_, _%_, _≤_, _<_, compare, Ordering, Ordering·lt, Ordering·eq, Ordering·gt}
-use native.Mathlib.Nat.{le-trans, div-add-mod', div-mul-le-self, div-le-self, mod-lt, add-mul, suc-mul, zero-mul, one-mul, mul-le-mul-left}
+use native.Mathlib.Nat.{le-trans, div-add-mod', div-mul-le-self, div-le-self, div-eq-of-lt, mod-eq-of-lt, mod-lt, add-mul, suc-mul, zero-mul, one-mul, mul-le-mul-left}
 use native.Mathlib.Omega.{arith}
 use mathlib.Core.Bool.{not}
 use lib.Dec.{T, lit<, isLe, isEq, eqb, leb→le, nleb→lt, eqb→eq, eqb-refl}
@@ -65,3 +65,9 @@ module _ (v u : ℕ) where
           half (suc zero) d k = omega (arith, one-mul u)
           half (suc (suc b)) d k = let z : ⊥ = omega arith in absurd z
       go q r Ordering·gt h e l = omega (arith, suc-mul q u)
+
+-- what is less than half of u is dropped whole
+pub closest-zero : (v u : ℕ) → v * 2 < u → closest v u ≡ 0
+closest-zero v u h =
+    let l : v < u = omega arith in
+    below-half v u (subst (λ (x : ℕ). x * 2 < u) (sym (mod-eq-of-lt l)) h) ∙ div-eq-of-lt l

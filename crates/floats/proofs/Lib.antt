@@ -1,4 +1,5 @@
 pub mod Round
+pub mod Dyadic
 pub mod Halves
 pub mod Patterns
 pub mod Constants

@@ -4,59 +4,31 @@ use mathlib.Core.Path.{_≡_, refl, sym, ap, _∙_, subst}
 use mathlib.Core.Logic.{_⊎_, inl, inr}
 use mathlib.Core.Bool.{Bool, true, false, not, cond}
 use Prim.Native.Nat.{ℕ, zero, suc, _+_, _-_, _*_, _/_, _%_, _^_, _≤_, _<_, min}
-use native.Mathlib.Nat.{le-trans, le-of-eq, lt-of-le-of-lt, lt-of-lt-of-le, add-comm, mod-eq-of-lt, mod-lt, div-eq-of-lt, mul-le-mul-right, mul-lt-mul-of-pos-right, mul-pos, min-eq-left, min-eq-right}
+use native.Mathlib.Nat.{add-comm, mod-lt, mul-one, min-eq-left, min-eq-right}
 use native.Mathlib.Omega.{arith}
 use lib.Dec.{T, leb, leb→le, nleb→lt, eqb, ltb, ltb→lt, nltb→le}
-use lib.Pow.{pow-add, pow-pos, pow-mono}
+use lib.Pow.{pow-pos, pow-mono}
 use lib.Ieee.{Float, nan, inf, fin, binary32, binary64, up, down, odd, round, ofFields, ofBits, toBits, isNan, fits}
 use lib.Ieee.Bits.{ofBits-toBits}
 use lib.Ieee.Exact.{HasValue, odd-sign}
 use lib.Ieee.Fits.{down-pos}
-use lib.Ieee.Nearest.{closest, closest-same}
+use lib.Ieee.Nearest.{closest}
 use lib.Ieee.Scale.{round-same}
 use borrow.Author.Tests.{eqb-true}
 use Rattle.floats.specs.Rounding.{narrowF32, packed}
-use Rattle.floats.proofs.Halves.{below-half}
-use Rattle.floats.proofs.Round.{times, round-bits}
+use Rattle.floats.proofs.Halves.{closest-zero}
+use Rattle.floats.proofs.Dyadic.{dyadic-bits}
 
 -- ---- rounding M * 2 ^ g of the smallest f64
-module _ (s : Bool) (M g : ℕ) (hi : M < 2 ^ 53) (lo : 897 ≤ suc g → 2 ^ 52 ≤ M) where
-  abbrev k : ℕ
-  k = suc g - 897
-
-  abbrev d : ℕ
-  d = 29 + (897 - suc g)
-
-  -- M * 2 ^ g in units of the smallest f32, but for the factor 2 ^ 1074
-  in-units : M * 2 ^ g * 2 ^ 149 ≡ M * 2 ^ (g + 149)
-  in-units = times M g 149 (g + 149) refl
-
-  high : M * 2 ^ g * 2 ^ 149 < 2 ^ (24 + k) * 2 ^ 1074
-  high =
-      lt-of-le-of-lt (le-of-eq in-units)
-      (lt-of-lt-of-le (mul-lt-mul-of-pos-right hi (pow-pos (g + 149)))
-      (le-trans (le-of-eq (sym (pow-add 2 53 (g + 149)))) (le-trans (pow-mono {i = 53 + (g + 149)} {j = 24 + k + 1074} (omega arith)) (le-of-eq (pow-add 2 (24 + k) 1074)))))
-
-  low-end : (k ≡ 0) ⊎ (2 ^ 23 * 2 ^ k * 2 ^ 1074 ≤ M * 2 ^ g * 2 ^ 149)
-  low-end = go (leb 897 (suc g)) (leb→le 897 (suc g)) (nleb→lt 897 (suc g))
-    where
-      go : (b : Bool) → (T b → 897 ≤ suc g) → (T (not b) → suc g < 897) → (k ≡ 0) ⊎ (2 ^ 23 * 2 ^ k * 2 ^ 1074 ≤ M * 2 ^ g * 2 ^ 149)
-      go false y n = inl (omega (arith, n tt))
-      go true y n =
-          let h = y tt in
-          let e : 2 ^ 23 * 2 ^ k * 2 ^ 1074 ≡ 2 ^ 52 * 2 ^ (g + 149) =
-          times (2 ^ 23) k 1074 (g + 178) (omega arith) ∙ sym (pow-add 2 23 (g + 178)) ∙ ap (λ (x : ℕ). 2 ^ x) (omega arith) ∙ pow-add 2 52 (g + 149) in
-          inr (le-trans (le-of-eq e) (le-trans (mul-le-mul-right (2 ^ (g + 149)) (lo h)) (le-of-eq (sym in-units))))
-
-  same-kept : closest (M * 2 ^ g * 2 ^ 149) (2 ^ 1074 * 2 ^ k) ≡ closest M (2 ^ d)
-  same-kept =
-      closest-same (M * 2 ^ g * 2 ^ 149) (2 ^ 1074 * 2 ^ k) M (2 ^ d) (mul-pos (pow-pos 1074) (pow-pos k)) (pow-pos d)
-      (ap (λ (x : ℕ). x * 2 ^ d) in-units ∙ times M (g + 149) d (1074 + k) (omega arith) ∙ ap (λ (x : ℕ). M * x) (pow-add 2 1074 k))
-
-  narrowed : round binary32 s (M * 2 ^ g) (2 ^ 1074) ≡ ofBits binary32 (cond s (2 ^ 31) 0 + packed binary32 k (closest M (2 ^ d)))
-  narrowed =
-      round-bits binary32 s (M * 2 ^ g) (2 ^ 1074) k (pow-pos 1074) high low-end
-      ∙ ap (λ (q : ℕ). ofBits binary32 (cond s (2 ^ 31) 0 + packed binary32 k q)) same-kept
+narrowed : (s : Bool) (M g : ℕ) → M < 2 ^ 53 → (897 ≤ suc g → 2 ^ 52 ≤ M)
+    → round binary32 s (M * 2 ^ g) (2 ^ 1074) ≡ ofBits binary32 (cond s (2 ^ 31) 0 + packed binary32 (suc g - 897) (closest M (2 ^ (29 + (897 - suc g)))))
+narrowed s M g hi lo =
+    dyadic-bits binary32 s M g 1074 52 (suc g - 897) hi (omega arith) (go (leb 897 (suc g)) (leb→le 897 (suc g)) (nleb→lt 897 (suc g))) 0 (29 + (897 - suc g)) (omega arith)
+    ∙ ap (λ (x : ℕ). ofBits binary32 (cond s (2 ^ 31) 0 + packed binary32 (suc g - 897) (closest x (2 ^ (29 + (897 - suc g)))))) (mul-one M)
+  where
+    go : (b : Bool) → (T b → 897 ≤ suc g) → (T (not b) → suc g < 897) → (suc g - 897 ≡ 0) ⊎ ((2 ^ 52 ≤ M) × (24 + (suc g - 897) + 1074 ≤ suc 52 + g + 149))
+    go false y n = inl (omega (arith, n tt))
+    go true y n = inr (lo (y tt), omega (arith, y tt))
 
 -- ---- what the fields of an f64 say
 abbrev lead : ℕ → ℕ → ℕ
@@ -84,12 +56,6 @@ unfolding narrowF32
 narrow-is nan s a c C h = absurd h
 narrow-is (inf t) s a c C h = absurd h
 narrow-is (fin t m e) s a c C h = round-same binary32 t (m * up e) (down e) a c (down-pos e) C (h .1) ∙ ap (λ (b : Bool). round binary32 b a c) (h .0)
-
--- what is less than half of the unit is dropped whole
-closest-zero : (v u : ℕ) → v * 2 < u → closest v u ≡ 0
-closest-zero v u h =
-    let l : v < u = omega arith in
-    below-half v u (subst (λ (x : ℕ). x * 2 < u) (sym (mod-eq-of-lt l)) h) ∙ div-eq-of-lt l
 
 lead-lt : (e t : ℕ) → t < 2 ^ 52 → lead e t < 2 ^ 53
 lead-lt zero t h = omega arith

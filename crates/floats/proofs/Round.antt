@@ -5,7 +5,7 @@ use mathlib.Core.Path.{_≡_, refl, sym, ap, _∙_, subst}
 use mathlib.Core.Logic.{_⊎_, inl, inr}
 use mathlib.Core.Bool.{Bool, true, false, not, cond}
 use Prim.Native.Nat.{ℕ, suc, _+_, _-_, _*_, _/_, _%_, _^_, _≤_, _<_, compare, min}
-use native.Mathlib.Nat.{le-trans, le-of-eq, lt-of-le-of-lt, lt-of-lt-of-le, lt-of-not-le, not-le-of-lt, eq-or-lt-of-le, le-of-suc-le-suc, le-of-mul-le-mul-right, mul-assoc, mul-div-cancel, mul-le-mul-right, mul-lt-mul-of-pos-right, le-div-iff-mul-le, div-lt-iff-lt-mul, div-div-eq-div-mul, two-pow-succ, add-assoc, add-mul, suc-mul, min-eq-left, min-eq-right, min-le-right}
+use native.Mathlib.Nat.{le-trans, le-of-eq, lt-of-le-of-lt, lt-of-lt-of-le, lt-of-not-le, not-le-of-lt, eq-or-lt-of-le, le-of-suc-le-suc, le-of-mul-le-mul-right, mul-div-cancel, mul-le-mul-right, mul-lt-mul-of-pos-right, le-div-iff-mul-le, div-lt-iff-lt-mul, div-div-eq-div-mul, two-pow-succ, add-assoc, add-mul, suc-mul, min-eq-left, min-eq-right, min-le-right}
 use native.Mathlib.Omega.{arith}
 use lib.Dec.{T, ltb, ltb→lt, nltb→le, lit<}
 use lib.Arith.{le→nltb}
@@ -25,9 +25,6 @@ exp-lt i j h = lt-of-not-le (λ (g : j ≤ i). not-le-of-lt h (pow-mono g))
 
 exp-le : (i j : ℕ) → 2 ^ i ≤ 2 ^ j → i ≤ j
 exp-le i j h = le-of-suc-le-suc (lt-of-not-le (λ (g : suc j ≤ i). not-le-of-lt (pow-lt g) h))
-
-pub times : (m a b c : ℕ) → a + b ≡ c → m * 2 ^ a * 2 ^ b ≡ m * 2 ^ c
-times m a b c e = mul-assoc m (2 ^ a) (2 ^ b) ∙ ap (λ (x : ℕ). m * x) (sym (pow-add 2 a b) ∙ ap (λ (x : ℕ). 2 ^ x) e)
 
 -- w has k digits more than suc p, or none more
 place : (w p k : ℕ) → w < 2 ^ (suc p + k) → (k ≡ 0) ⊎ (2 ^ (p + k) ≤ w) → size w - suc p ≡ k
@@ -90,7 +87,7 @@ module _ (p k q : ℕ) (K : Kept p k q) where
         go (inr g) (inr l) = omega (arith, mul-le-mul-right (2 ^ p) g, suc-mul t (2 ^ p), add-mul t 2 (2 ^ p))
 
 -- ---- formats: suc p digits, of which the largest values drop t
-record Widths (f : Format) : Type 0 where
+pub record Widths (f : Format) : Type 0 where
   pub p : ℕ
   pub t : ℕ
   pub digits : prec f ≡ suc p
@@ -99,7 +96,7 @@ record Widths (f : Format) : Type 0 where
   pub limit : overflow f ≡ 2 ^ (suc p + t)
   pub some : 0 < t
 
-widths : (f : Format) → Widths f
+pub widths : (f : Format) → Widths f
 widths binary32 = record { p = 23; t = 253; digits = refl; weight = refl; largest = refl; limit = refl; some = lit< tt }
 widths binary64 = record { p = 52; t = 2045; digits = refl; weight = refl; largest = refl; limit = refl; some = lit< tt }
 

@@ -1,10 +1,10 @@
 -- A u32 as an f32: z leading zeros leave 32 - z digits, so that 157 - z digits are dropped of the number in units of the smallest f32, which is the
 -- rounding law's k; and the f32 is within 128. Assumes nothing.
-use mathlib.Core.Path.{_≡_, refl, sym, ap, _∙_, subst}
+use mathlib.Core.Path.{_≡_, sym, ap, _∙_, subst}
 use mathlib.Core.Logic.{inr}
 use mathlib.Core.Bool.{Bool, true, false, not}
 use Prim.Native.Nat.{ℕ, suc, _+_, _-_, _*_, _^_, _≤_, _<_}
-use native.Mathlib.Nat.{le-trans, le-of-eq, le-of-lt, le-antisymm, lt-of-lt-of-le, lt-of-le-of-lt, lt-of-not-le, not-le-of-lt, le-of-mul-le-mul-right, mul-one, one-mul, mul-right-comm, mul-le-mul-right, mul-lt-mul-of-pos-right, zero-lt-suc, zero-add}
+use native.Mathlib.Nat.{le-trans, le-of-eq, le-of-lt, lt-of-lt-of-le, lt-of-le-of-lt, lt-of-not-le, not-le-of-lt, eq-of-mul-eq-mul-right, mul-assoc, mul-one, mul-right-comm, mul-le-mul-right, zero-add}
 use native.Mathlib.Omega.{arith}
 use lib.Count.{leadingZeros, leading-top}
 use lib.Dec.{T, leb, leb→le, nleb→lt}
@@ -12,42 +12,40 @@ use lib.Pow.{pow-add, pow-pos, pow-mono, pow-lt}
 use lib.Ieee.{Float, nan, inf, fin, binary32, up, down, round, ofInt, ofBits}
 use lib.Ieee.Back.{round-whole}
 use lib.Ieee.Exact.{HasValue}
-use lib.Ieee.Nearest.{closest, closest-same}
+use lib.Ieee.Nearest.{closest}
 use lib.Ieee.Scale.{overflow}
 use Rattle.floats.specs.Rounding.{nearestF32, packed}
 use Rattle.floats.specs.Near.{Near}
 use Rattle.floats.proofs.Halves.{within, at-most}
-use Rattle.floats.proofs.Round.{times, round-bits, round-value}
+use Rattle.floats.proofs.Dyadic.{dyadic-bits, dyadic-value}
 
-module _ (v z j : ℕ) (Z : z + suc j ≡ 32) (lo : 2 ^ j ≤ v) (hi : v < 2 ^ suc j) where
-  high : v * 2 ^ 149 < 2 ^ (24 + (157 - z)) * 1
-  high =
-      lt-of-lt-of-le (mul-lt-mul-of-pos-right hi (pow-pos 149))
-      (le-of-eq (sym (pow-add 2 (suc j) 149) ∙ ap (λ (x : ℕ). 2 ^ x) (omega arith) ∙ sym (mul-one (2 ^ (24 + (157 - z))))))
+module _ (v z j : ℕ) (Z : z + suc j ≡ 32) (lo : 2 ^ j ≤ v) (hi : v < 2 ^ suc j) (b d : ℕ) (e : 149 + d + z ≡ b + 157) where
+  few : suc j + 0 + 149 ≤ 24 + (157 - z) + 0
+  few = omega arith
 
-  low-end : 2 ^ 23 * 2 ^ (157 - z) * 1 ≤ v * 2 ^ 149
-  low-end =
-      le-trans (le-of-eq (mul-one (2 ^ 23 * 2 ^ (157 - z)) ∙ sym (pow-add 2 23 (157 - z)) ∙ ap (λ (x : ℕ). 2 ^ x) (omega arith) ∙ pow-add 2 j 149))
-      (mul-le-mul-right (2 ^ 149) lo)
+  all : 24 + (157 - z) + 0 ≤ suc j + 0 + 149
+  all = omega arith
 
-  -- what is kept of v, with b zeros behind it and d digits dropped
-  same-kept : (b d : ℕ) → b + 157 ≡ 149 + d + z → closest (v * 2 ^ 149) (1 * 2 ^ (157 - z)) ≡ closest (v * 2 ^ b) (2 ^ d)
-  same-kept b d e =
-      closest-same (v * 2 ^ 149) (1 * 2 ^ (157 - z)) (v * 2 ^ b) (2 ^ d) (subst (λ (x : ℕ). 0 < x) (sym (one-mul (2 ^ (157 - z)))) (pow-pos (157 - z))) (pow-pos d)
-      (times v 149 d (b + (157 - z)) (omega arith) ∙ sym (times v b (157 - z) (b + (157 - z)) refl) ∙ ap (λ (x : ℕ). v * 2 ^ b * x) (sym (one-mul (2 ^ (157 - z)))))
+  even : 0 + 149 + d ≡ b + 0 + (157 - z)
+  even = omega arith
 
-  pub whole-bits : nearestF32 v ≡ ofBits binary32 (packed binary32 (157 - z) (closest (v * 2 ^ 24) (2 ^ (32 - z))))
-  unfolding nearestF32 ofInt
-  whole-bits =
-      round-bits binary32 false v 1 (157 - z) (zero-lt-suc 0) high (inr low-end)
-      ∙ ap (ofBits binary32) (zero-add (packed binary32 (157 - z) (closest (v * 2 ^ 149) (1 * 2 ^ (157 - z)))) ∙ ap (packed binary32 (157 - z)) (same-kept 24 (32 - z) (omega arith)))
+  over-one : round binary32 false (v * 2 ^ 0) (2 ^ 0) ≡ round binary32 false v 1
+  over-one = ap (λ (x : ℕ). round binary32 false x 1) (mul-one v)
+
+  whole-bits : round binary32 false v 1 ≡ ofBits binary32 (packed binary32 (157 - z) (closest (v * 2 ^ b) (2 ^ d)))
+  whole-bits = sym over-one ∙ dyadic-bits binary32 false v 0 0 j (157 - z) hi few (inr (lo, all)) b d even ∙ ap (ofBits binary32) (zero-add (packed binary32 (157 - z) (closest (v * 2 ^ b) (2 ^ d))))
+
+  whole-value : closest (v * 2 ^ b) (2 ^ d) * 2 ^ (157 - z) < overflow binary32 → HasValue (round binary32 false v 1) false (closest (v * 2 ^ b) (2 ^ d) * 2 ^ (157 - z)) (2 ^ 149)
+  whole-value l = subst (λ (x : Float). HasValue x false (closest (v * 2 ^ b) (2 ^ d) * 2 ^ (157 - z)) (2 ^ 149)) over-one (dyadic-value binary32 false v 0 0 j (157 - z) hi few (inr (lo, all)) b d even l)
 
 -- by the count of leading zeros
 pub of-zeros : (v : ℕ) → 0 < v → v < 2 ^ 32
     → (leadingZeros 32 v ≤ 31) × (nearestF32 v ≡ ofBits binary32 (packed binary32 (157 - leadingZeros 32 v) (closest (v * 2 ^ 24) (2 ^ (32 - leadingZeros 32 v)))))
+unfolding nearestF32 ofInt
 of-zeros v p h =
     let t = leading-top 32 v p h in
-    (omega (arith, t .1), whole-bits v (leadingZeros 32 v) (t .0) (t .1) (t .2) (t .3))
+    let z = leadingZeros 32 v in
+    (omega (arith, t .1), whole-bits v z (t .0) (t .1) (t .2) (t .3) 24 (32 - z) (omega (arith, t .1)))
 
 -- ---- within 128
 -- a fraction whose top and bottom share a factor
@@ -56,7 +54,7 @@ cancel nan s a c C h = h
 cancel (inf t) s a c C h = h
 cancel (fin t m e) s a c C h =
     let g : m * up e * c ≡ a * down e * c = h .1 ∙ mul-right-comm a c (down e) in
-    (h .0, mul-one (m * up e) ∙ le-antisymm (le-of-mul-le-mul-right (le-of-eq g) C) (le-of-mul-le-mul-right (le-of-eq (sym g)) C))
+    (h .0, mul-one (m * up e) ∙ eq-of-mul-eq-mul-right c C (m * up e) (a * down e) g)
 
 -- a u32 above 2 ^ 24 loses at most 8 digits, which is 128 at most either way
 large : (v : ℕ) → 2 ^ 24 < v → v < 2 ^ 32 → Near 128 (round binary32 false v 1) v
@@ -66,16 +64,15 @@ large v l h =
     let j = t .0 in
     let few : z < 8 = lt-of-not-le (λ (g : 8 ≤ z). not-le-of-lt (lt-of-lt-of-le l (le-of-lt (t .3))) (pow-mono {i = suc j} {j = 24} (omega (arith, t .1)))) in
     let d = 8 - z in
-    let q = closest v (2 ^ d) in
-    let w = within v (2 ^ d) (pow-pos d) in
+    let q = closest (v * 2 ^ 0) (2 ^ d) in
+    let w = within (v * 2 ^ 0) (2 ^ d) (pow-pos d) in
     let m : 2 ^ d ≤ 2 ^ 8 = pow-mono {i = d} {j = 8} (omega arith) in
-    let same : closest (v * 2 ^ 149) (1 * 2 ^ (157 - z)) ≡ q = same-kept v z j (t .1) (t .2) (t .3) 0 d (omega arith) ∙ ap (λ (x : ℕ). closest x (2 ^ d)) (mul-one v) in
-    let size : q * 2 ^ (157 - z) ≡ q * 2 ^ d * 2 ^ 149 = sym (times q d 149 (157 - z) (omega arith)) in
-    let small : closest (v * 2 ^ 149) (1 * 2 ^ (157 - z)) * 2 ^ (157 - z) < overflow binary32 =
-    lt-of-le-of-lt (mul-le-mul-right (2 ^ (157 - z)) (le-trans (le-of-eq same) (le-trans (at-most v (2 ^ d)) h)))
+    let same : q * 2 ^ (157 - z) ≡ q * 2 ^ d * 2 ^ 149 = ap (λ (x : ℕ). q * 2 ^ x) (omega arith) ∙ ap (λ (x : ℕ). q * x) (pow-add 2 d 149) ∙ sym (mul-assoc q (2 ^ d) (2 ^ 149)) in
+    let small : q * 2 ^ (157 - z) < overflow binary32 =
+    lt-of-le-of-lt (mul-le-mul-right (2 ^ (157 - z)) (le-trans (at-most (v * 2 ^ 0) (2 ^ d)) (omega (arith, mul-one v))))
     (lt-of-le-of-lt (le-of-eq (sym (pow-add 2 32 (157 - z)))) (pow-lt {i = 32 + (157 - z)} {j = 277} (omega arith))) in
-    let is = round-value binary32 false v 1 (157 - z) (zero-lt-suc 0) (high v z j (t .1) (t .2) (t .3)) (inr (low-end v z j (t .1) (t .2) (t .3))) small in
-    (q * 2 ^ d, cancel (round binary32 false v 1) false (q * 2 ^ d) (2 ^ 149) (pow-pos 149) (subst (λ (x : ℕ). HasValue (round binary32 false v 1) false x (2 ^ 149)) (ap (λ (x : ℕ). x * 2 ^ (157 - z)) same ∙ size) is), omega arith, omega arith)
+    let value = whole-value v z j (t .1) (t .2) (t .3) 0 d (omega (arith, t .1)) small in
+    (q * 2 ^ d, cancel (round binary32 false v 1) false (q * 2 ^ d) (2 ^ 149) (pow-pos 149) (subst (λ (x : ℕ). HasValue (round binary32 false v 1) false x (2 ^ 149)) same value), omega (arith, mul-one v), omega (arith, mul-one v))
 
 pub within-128 : (v : ℕ) → v < 2 ^ 32 → Near 128 (nearestF32 v) v
 unfolding nearestF32 ofInt
