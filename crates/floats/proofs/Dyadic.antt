@@ -12,7 +12,7 @@ use lib.Ieee.{Format, prec, low, hid, top, round, ofBits}
 use lib.Ieee.Exact.{HasValue}
 use lib.Ieee.Nearest.{closest, closest-same}
 use lib.Ieee.Scale.{overflow}
-use Rattle.floats.specs.Rounding.{packed}
+use Rattle.floats.specs.Rounding.{packedBits}
 use Rattle.floats.proofs.Round.{widths, round-bits, round-value}
 
 times : (m a b c : ℕ) → a + b ≡ c → m * 2 ^ a * 2 ^ b ≡ m * 2 ^ c
@@ -49,8 +49,8 @@ module _ (f : Format) (s : Bool) (M g h j k : ℕ) (hi : M < 2 ^ suc j) (few : s
         closest-same (M * 2 ^ g * 2 ^ low f) (2 ^ h * 2 ^ k) (M * 2 ^ b) (2 ^ d) (mul-pos (pow-pos h) (pow-pos k)) (pow-pos d)
         (ap (λ (x : ℕ). x * 2 ^ d) in-units ∙ times M (g + low f) d (b + (h + k)) (omega arith) ∙ sym (times M b (h + k) (b + (h + k)) refl) ∙ ap (λ (x : ℕ). M * 2 ^ b * x) (pow-add 2 h k))
 
-    pub dyadic-bits : round f s (M * 2 ^ g) (2 ^ h) ≡ ofBits f (cond s (top f) 0 + packed f k (closest (M * 2 ^ b) (2 ^ d)))
-    dyadic-bits = round-bits f s (M * 2 ^ g) (2 ^ h) k (pow-pos h) high low-end ∙ ap (λ (q : ℕ). ofBits f (cond s (top f) 0 + packed f k q)) same-kept
+    pub dyadic-bits : round f s (M * 2 ^ g) (2 ^ h) ≡ ofBits f (cond s (top f) 0 + packedBits f k (closest (M * 2 ^ b) (2 ^ d)))
+    dyadic-bits = round-bits f s (M * 2 ^ g) (2 ^ h) k (pow-pos h) high low-end ∙ ap (λ (q : ℕ). ofBits f (cond s (top f) 0 + packedBits f k q)) same-kept
 
     pub dyadic-value : closest (M * 2 ^ b) (2 ^ d) * 2 ^ k < overflow f → HasValue (round f s (M * 2 ^ g) (2 ^ h)) s (closest (M * 2 ^ b) (2 ^ d) * 2 ^ k) (2 ^ low f)
     dyadic-value l =

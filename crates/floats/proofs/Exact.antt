@@ -5,10 +5,10 @@ use lib.IntN.{pos, negsuc}
 use lib.Ieee.{Format, prec, ofInt}
 use lib.Ieee.Back.{round-whole}
 use lib.Ieee.Exact.{HasValue}
-use Rattle.floats.specs.Near.{Is}
+use Rattle.floats.specs.Near.{IsWhole}
 
 -- up to 2 ^ 24 in an f32 and 2 ^ 53 in an f64, on either side of 0
-pub exactly : (f : Format) (v : ℕ) → v ≤ 2 ^ prec f → Is (ofInt f (pos v)) v
+pub exactly : (f : Format) (v : ℕ) → v ≤ 2 ^ prec f → IsWhole (ofInt f (pos v)) v
 unfolding ofInt
 exactly f v h = round-whole f false v h
 

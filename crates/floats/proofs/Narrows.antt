@@ -15,16 +15,16 @@ use lib.Ieee.Fits.{down-pos}
 use lib.Ieee.Nearest.{closest}
 use lib.Ieee.Scale.{round-same}
 use borrow.Author.Tests.{eqb-true}
-use Rattle.floats.specs.Rounding.{narrowF32, packed}
+use Rattle.floats.specs.Rounding.{narrowF32, packedBits}
 use Rattle.floats.proofs.Halves.{closest-zero}
 use Rattle.floats.proofs.Dyadic.{dyadic-bits}
 
 -- ---- rounding M * 2 ^ g of the smallest f64
 narrowed : (s : Bool) (M g : ℕ) → M < 2 ^ 53 → (897 ≤ suc g → 2 ^ 52 ≤ M)
-    → round binary32 s (M * 2 ^ g) (2 ^ 1074) ≡ ofBits binary32 (cond s (2 ^ 31) 0 + packed binary32 (suc g - 897) (closest M (2 ^ (29 + (897 - suc g)))))
+    → round binary32 s (M * 2 ^ g) (2 ^ 1074) ≡ ofBits binary32 (cond s (2 ^ 31) 0 + packedBits binary32 (suc g - 897) (closest M (2 ^ (29 + (897 - suc g)))))
 narrowed s M g hi lo =
     dyadic-bits binary32 s M g 1074 52 (suc g - 897) hi (omega arith) (go (leb 897 (suc g)) (leb→le 897 (suc g)) (nleb→lt 897 (suc g))) 0 (29 + (897 - suc g)) (omega arith)
-    ∙ ap (λ (x : ℕ). ofBits binary32 (cond s (2 ^ 31) 0 + packed binary32 (suc g - 897) (closest x (2 ^ (29 + (897 - suc g)))))) (mul-one M)
+    ∙ ap (λ (x : ℕ). ofBits binary32 (cond s (2 ^ 31) 0 + packedBits binary32 (suc g - 897) (closest x (2 ^ (29 + (897 - suc g)))))) (mul-one M)
   where
     go : (b : Bool) → (T b → 897 ≤ suc g) → (T (not b) → suc g < 897) → (suc g - 897 ≡ 0) ⊎ ((2 ^ 52 ≤ M) × (24 + (suc g - 897) + 1074 ≤ suc 52 + g + 149))
     go false y n = inl (omega (arith, n tt))
@@ -84,8 +84,8 @@ kept-so e t h = go (ltb e 863) (ltb→lt e 863) (nltb→le e 863)
     go false l g = same e (g tt)
 
 -- infinity's bits, with either sign
-infinite : (s : Bool) (k q : ℕ) → 255 ≤ k → ofBits binary32 (cond s (2 ^ 31) 0 + packed binary32 k q) ≡ inf s
-unfolding packed ofBits
+infinite : (s : Bool) (k q : ℕ) → 255 ≤ k → ofBits binary32 (cond s (2 ^ 31) 0 + packedBits binary32 k q) ≡ inf s
+unfolding packedBits ofBits
 infinite s k q h = ap (λ (x : ℕ). ofBits binary32 (cond s (2 ^ 31) 0 + x)) (min-eq-right {n = 2139095040} {m = k * 8388608 + q} (omega arith)) ∙ go s
   where
     go : (s : Bool) → ofBits binary32 (cond s (2 ^ 31) 0 + 2139095040) ≡ inf s
@@ -94,21 +94,21 @@ infinite s k q h = ap (λ (x : ℕ). ofBits binary32 (cond s (2 ^ 31) 0 + x)) (m
 
 -- ---- narrowing, by the bits
 unfoldable pub narrowBits : Bool → ℕ → ℕ → ℕ
-narrowBits s e t = cond s (2 ^ 31) 0 + packed binary32 (e - 897) (closest (t + 2 ^ 52) (2 ^ (29 + min (897 - e) 34)))
+narrowBits s e t = cond s (2 ^ 31) 0 + packedBits binary32 (e - 897) (closest (t + 2 ^ 52) (2 ^ (29 + min (897 - e) 34)))
 
 by-fields : (s : Bool) (e t : ℕ) → t < 2 ^ 52 → T (not (isNan (ofFields binary64 s e t))) → narrowF32 (ofFields binary64 s e t) ≡ ofBits binary32 (narrowBits s e t)
 unfolding narrowBits narrowF32
 by-fields s e t h p = go (fields s e t p)
   where
     go : ((e ≡ 2047) × (ofFields binary64 s e t ≡ inf s)) ⊎ HasValue (ofFields binary64 s e t) s (lead e t * 2 ^ (e - 1)) (2 ^ 1074)
-        → narrowF32 (ofFields binary64 s e t) ≡ ofBits binary32 (cond s (2 ^ 31) 0 + packed binary32 (e - 897) (closest (t + 2 ^ 52) (2 ^ (29 + min (897 - e) 34))))
+        → narrowF32 (ofFields binary64 s e t) ≡ ofBits binary32 (cond s (2 ^ 31) 0 + packedBits binary32 (e - 897) (closest (t + 2 ^ 52) (2 ^ (29 + min (897 - e) 34))))
     go (inl w) = ap narrowF32 (w .1) ∙ sym (infinite s (e - 897) (closest (t + 2 ^ 52) (2 ^ (29 + min (897 - e) 34))) (omega (arith, w .0)))
     go (inr w) =
         let k : suc (e - 1) - 897 ≡ e - 897 = omega arith in
         narrow-is (ofFields binary64 s e t) s (lead e t * 2 ^ (e - 1)) (2 ^ 1074) (pow-pos 1074) w
         ∙ narrowed s (lead e t) (e - 1) (lead-lt e t h) (lead-ge e t)
-        ∙ ap (λ (x : ℕ). ofBits binary32 (cond s (2 ^ 31) 0 + packed binary32 x (closest (lead e t) (2 ^ (29 + (897 - suc (e - 1))))))) k
-        ∙ ap (λ (q : ℕ). ofBits binary32 (cond s (2 ^ 31) 0 + packed binary32 (e - 897) q)) (kept-so e t h)
+        ∙ ap (λ (x : ℕ). ofBits binary32 (cond s (2 ^ 31) 0 + packedBits binary32 x (closest (lead e t) (2 ^ (29 + (897 - suc (e - 1))))))) k
+        ∙ ap (λ (q : ℕ). ofBits binary32 (cond s (2 ^ 31) 0 + packedBits binary32 (e - 897) q)) (kept-so e t h)
 
 pub narrow-bits : (x : Float) → T (fits binary64 x) → T (not (isNan x))
     → narrowF32 x ≡ ofBits binary32 (narrowBits (leb (2 ^ 63) (toBits binary64 x)) (toBits binary64 x % 2 ^ 63 / 2 ^ 52) (toBits binary64 x % 2 ^ 52))

@@ -17,7 +17,7 @@ use lib.Ieee.Bits.{ofBits-toBits, cond-no}
 use lib.Ieee.Exact.{HasValue, units-val}
 use lib.Ieee.Nearest.{closest, nearest-ge}
 use lib.Ieee.Scale.{overflow}
-use Rattle.floats.specs.Rounding.{packed}
+use Rattle.floats.specs.Rounding.{packedBits}
 
 -- ---- powers of two
 exp-lt : (i j : ℕ) → 2 ^ i < 2 ^ j → i < j
@@ -171,8 +171,8 @@ module _ (f : Format) (s : Bool) (a c k : ℕ) (C : 0 < c) (hi : a * 2 ^ low f <
       subst (λ (x : ℕ). (size (q * 2 ^ k) - x) * H + q * 2 ^ k / 2 ^ (size (q * 2 ^ k) - x) ≡ k * H + q) (sym e)
       (subst (λ (x : ℕ). (size (q * 2 ^ k) - suc (w .p)) * x + q * 2 ^ k / 2 ^ (size (q * 2 ^ k) - suc (w .p)) ≡ k * x + q) (sym h) (regains (w .p) k q is-kept))
 
-  bits-are : toBits f (round f s a c) ≡ cond s (top f) 0 + packed f k q
-  unfolding packed toBits
+  bits-are : toBits f (round f s a c) ≡ cond s (top f) 0 + packedBits f k q
+  unfolding packedBits toBits
   bits-are = go (ltb (q * 2 ^ k) (overflow f)) (ltb→lt (q * 2 ^ k) (overflow f)) (nltb→le (q * 2 ^ k) (overflow f))
     where
       most : ones f * hid f ≡ (w .t + 2) * 2 ^ w .p
@@ -191,10 +191,10 @@ module _ (f : Format) (s : Bool) (a c k : ℕ) (C : 0 < c) (hi : a * 2 ^ low f <
           let h : ones f * hid f ≤ k * hid f + q = omega (arith, over (w .p) k q is-kept (w .t) (w .some) (subst (λ (x : ℕ). x ≤ q * 2 ^ k) (w .limit) (g tt)), most, sum) in
           ap (toBits f) (is-units ∙ beyond f s q k (g tt)) ∙ ap (λ (x : ℕ). cond s (top f) 0 + x) (sym (min-eq-right h))
 
-  pub round-bits : round f s a c ≡ ofBits f (cond s (top f) 0 + packed f k q)
+  pub round-bits : round f s a c ≡ ofBits f (cond s (top f) 0 + packedBits f k q)
   round-bits = sym (ofBits-toBits f (round f s a c) (round-fits f s a c)) ∙ ap (ofBits f) bits-are
 
 -- no pattern is above infinity's
-pub packed-le : (f : Format) (k q : ℕ) → packed f k q ≤ ones f * hid f
-unfolding packed
+pub packed-le : (f : Format) (k q : ℕ) → packedBits f k q ≤ ones f * hid f
+unfolding packedBits
 packed-le f k q = min-le-right (k * hid f + q) (ones f * hid f)

@@ -14,7 +14,7 @@ use lib.Ieee.Back.{round-whole}
 use lib.Ieee.Exact.{HasValue}
 use lib.Ieee.Nearest.{closest}
 use lib.Ieee.Scale.{overflow}
-use Rattle.floats.specs.Rounding.{nearestF32, packed}
+use Rattle.floats.specs.Rounding.{nearestF32, packedBits}
 use Rattle.floats.specs.Near.{Near}
 use Rattle.floats.proofs.Halves.{within, at-most}
 use Rattle.floats.proofs.Dyadic.{dyadic-bits, dyadic-value}
@@ -32,15 +32,15 @@ module _ (v z j : ℕ) (Z : z + suc j ≡ 32) (lo : 2 ^ j ≤ v) (hi : v < 2 ^ s
   over-one : round binary32 false (v * 2 ^ 0) (2 ^ 0) ≡ round binary32 false v 1
   over-one = ap (λ (x : ℕ). round binary32 false x 1) (mul-one v)
 
-  whole-bits : round binary32 false v 1 ≡ ofBits binary32 (packed binary32 (157 - z) (closest (v * 2 ^ b) (2 ^ d)))
-  whole-bits = sym over-one ∙ dyadic-bits binary32 false v 0 0 j (157 - z) hi few (inr (lo, all)) b d even ∙ ap (ofBits binary32) (zero-add (packed binary32 (157 - z) (closest (v * 2 ^ b) (2 ^ d))))
+  whole-bits : round binary32 false v 1 ≡ ofBits binary32 (packedBits binary32 (157 - z) (closest (v * 2 ^ b) (2 ^ d)))
+  whole-bits = sym over-one ∙ dyadic-bits binary32 false v 0 0 j (157 - z) hi few (inr (lo, all)) b d even ∙ ap (ofBits binary32) (zero-add (packedBits binary32 (157 - z) (closest (v * 2 ^ b) (2 ^ d))))
 
   whole-value : closest (v * 2 ^ b) (2 ^ d) * 2 ^ (157 - z) < overflow binary32 → HasValue (round binary32 false v 1) false (closest (v * 2 ^ b) (2 ^ d) * 2 ^ (157 - z)) (2 ^ 149)
   whole-value l = subst (λ (x : Float). HasValue x false (closest (v * 2 ^ b) (2 ^ d) * 2 ^ (157 - z)) (2 ^ 149)) over-one (dyadic-value binary32 false v 0 0 j (157 - z) hi few (inr (lo, all)) b d even l)
 
 -- by the count of leading zeros
 pub of-zeros : (v : ℕ) → 0 < v → v < 2 ^ 32
-    → (leadingZeros 32 v ≤ 31) × (nearestF32 v ≡ ofBits binary32 (packed binary32 (157 - leadingZeros 32 v) (closest (v * 2 ^ 24) (2 ^ (32 - leadingZeros 32 v)))))
+    → (leadingZeros 32 v ≤ 31) × (nearestF32 v ≡ ofBits binary32 (packedBits binary32 (157 - leadingZeros 32 v) (closest (v * 2 ^ 24) (2 ^ (32 - leadingZeros 32 v)))))
 unfolding nearestF32 ofInt
 of-zeros v p h =
     let t = leading-top 32 v p h in

@@ -5,9 +5,9 @@ use lib.Ieee.{Float}
 use lib.Ieee.Exact.{HasValue}
 
 -- x is the whole number n
-abbrev pub Is : Float → ℕ → Type 0
-Is x n = HasValue x false n 1
+abbrev pub IsWhole : Float → ℕ → Type 0
+IsWhole x n = HasValue x false n 1
 
 -- x is a whole number that is within d of v
 abbrev pub Near : ℕ → Float → ℕ → Type 0
-Near d x v = (n : ℕ) × Is x n × (n ≤ v + d) × (v ≤ n + d)
+Near d x v = (n : ℕ) × IsWhole x n × (n ≤ v + d) × (v ≤ n + d)

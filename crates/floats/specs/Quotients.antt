@@ -3,7 +3,7 @@ use Prim.Native.Nat.{ℕ, _%_, _^_}
 use mathlib.Core.Bool.{false, cond}
 use lib.IntN.{ℤ, pos}
 use lib.Ieee.{Float, Format, binary32, binary64, round, ofInt, add, sub, mul, div, lt}
-use Rattle.signed.specs.Signed.{signed, around}
+use Rattle.signed.specs.Signed.{signedBits, around}
 use Rattle.floats.specs.Rounding.{narrowF32}
 
 -- a / b: each a float of the format f, and one division
@@ -20,7 +20,7 @@ thousandthsF32 v = quotient binary32 (pos v) (pos 1000)
 
 -- the low 16 bits of v, signed, over 10
 unfoldable pub lowTenths : ℕ → Float
-lowTenths v = quotient binary32 (signed 16 (v % 2 ^ 16)) (pos 10)
+lowTenths v = quotient binary32 (signedBits 16 (v % 2 ^ 16)) (pos 10)
 
 -- tenths around 8000h
 unfoldable pub offsetTenths : ℕ → Float

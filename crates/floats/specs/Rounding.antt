@@ -14,5 +14,5 @@ narrowF32 (inf s) = inf s
 narrowF32 (fin s m e) = round binary32 s (m * up e) (down e)
 
 -- the bits, but for the sign, of q * 2 ^ k of a format's smallest values: k counts up the exponent, and above all values stands infinity
-unfoldable pub packed : Format → ℕ → ℕ → ℕ
-packed f k q = min (k * hid f + q) (ones f * hid f)
+unfoldable pub packedBits : Format → ℕ → ℕ → ℕ
+packedBits f k q = min (k * hid f + q) (ones f * hid f)

@@ -27,7 +27,7 @@ ghost use Prim.Native.Nat.{_<_, _≤_, _^_, _-_, min};
 ghost use lib.Ieee.{Float, binary32, binary64, ofBits, toBits};
 ghost use lib.Ieee.Nearest.{closest};
 ghost use lib.Ieee.Scale.{finite};
-ghost use Rattle.floats.specs.Rounding.{nearestF32, narrowF32, packed};
+ghost use Rattle.floats.specs.Rounding.{nearestF32, narrowF32, packedBits};
 ghost use Rattle.floats.specs.Quotients.{ratio, thousandthsF32, lowTenths, offsetTenths, overThousand, density, milliseconds, gain, metresOfMillimetres, metresOfMils};
 
 // The parts of a float's bits: the weight of the exponent's field, infinity's pattern, and the weight of the sign.
@@ -77,7 +77,7 @@ fn closest(v: u64, unit: u64) -> u64
 // goes into the exponent by itself, and above the largest f32 stands infinity.
 fn packed_f32(raised: u64, digits: u64, dropped: u32) -> u32
     requires { ⌜ (raised < 2 ^ 32) × (digits < 2 ^ 62) × (dropped < 64) ⌝ }
-    ensures { λ r. ⌜ r ≡ packed binary32 raised (closest digits (2 ^ dropped)) ⌝ }
+    ensures { λ r. ⌜ r ≡ packedBits binary32 raised (closest digits (2 ^ dropped)) ⌝ }
 {
     let unit = 1u64 << dropped;
     let bits = raised * EXPONENT_F32 + closest(digits, unit);

@@ -12,7 +12,7 @@ use borrow.Author.Tests.{lt-ltb, le-ltb}
 use mir.Syntax.{Width}
 use mir.Val.{SFits, toZ, ofZ, bits, hbits}
 use mir.ValLaws.{toZ-pos, toZ-ofZ, bits-suc, pow-bits}
-use Rattle.signed.specs.Signed.{signed}
+use Rattle.signed.specs.Signed.{signedBits}
 
 minus-one : (k : ℕ) → negsuc 0 -ℤ pos k ≡ negsuc k
 minus-one zero = refl
@@ -22,14 +22,14 @@ minus-one (suc k) = ap (λ (x : ℕ). negsuc (suc x)) (zero-add k)
 down : (n b : ℕ) → n < suc b → pos n -ℤ pos (suc b) ≡ negsuc (suc b - suc n)
 down n b l = ap (λ (t : Bool). cond t (negsuc (suc b - suc n)) (pos (n - suc b))) (lt-ltb n (suc b) l)
 
-signed-low : (h n : ℕ) → n < 2 ^ h → signed (suc h) n ≡ pos n
-unfolding signed
+signed-low : (h n : ℕ) → n < 2 ^ h → signedBits (suc h) n ≡ pos n
+unfolding signedBits
 signed-low h n l =
     let e : suc h - 1 ≡ h = omega arith in
     ap (λ (t : Bool). cond t (pos n) (pos n -ℤ pos (2 ^ suc h))) (ap (λ (x : ℕ). ltb n (2 ^ x)) e ∙ lt-ltb n (2 ^ h) l)
 
-signed-high : (h n : ℕ) → 2 ^ h ≤ n → n < 2 ^ suc h → signed (suc h) n ≡ negsuc (2 ^ suc h - suc n)
-unfolding signed
+signed-high : (h n : ℕ) → 2 ^ h ≤ n → n < 2 ^ suc h → signedBits (suc h) n ≡ negsuc (2 ^ suc h - suc n)
+unfolding signedBits
 signed-high h n g l =
     let e : suc h - 1 ≡ h = omega arith in
     let b : 2 ^ suc h ≡ suc (2 ^ suc h - 1) = omega (arith, pow-pos (suc h)) in
@@ -38,8 +38,8 @@ signed-high h n g l =
 
 module _ (W : Width) (n : ℕ) where
   -- below the highest bit
-  pub below : n < 2 ^ hbits W → toZ W n ≡ signed (bits W) n
-  below l = toZ-pos W n l ∙ sym (ap (λ (w : ℕ). signed w n) (bits-suc W) ∙ signed-low (hbits W) n l)
+  pub below : n < 2 ^ hbits W → toZ W n ≡ signedBits (bits W) n
+  below l = toZ-pos W n l ∙ sym (ap (λ (w : ℕ). signedBits w n) (bits-suc W) ∙ signed-low (hbits W) n l)
 
   module _ (g : 2 ^ hbits W ≤ n) (l : n < 2 ^ bits W) where
     turned-small : (2 ^ bits W - 1) - n < 2 ^ hbits W
@@ -52,13 +52,13 @@ module _ (W : Width) (n : ℕ) where
     pub above-fits : SFits W (negsuc 0 -ℤ toZ W ((2 ^ bits W - 1) - n))
     above-fits = subst (λ (z : ℤ). SFits W z) (sym turned-is) (record { sfits = turned-small })
 
-    pub above : toZ W (ofZ W (negsuc 0 -ℤ toZ W ((2 ^ bits W - 1) - n))) ≡ signed (bits W) n
+    pub above : toZ W (ofZ W (negsuc 0 -ℤ toZ W ((2 ^ bits W - 1) - n))) ≡ signedBits (bits W) n
     above =
         let e : (2 ^ bits W - 1) - n ≡ 2 ^ bits W - suc n = omega arith in
         toZ-ofZ W (negsuc 0 -ℤ toZ W ((2 ^ bits W - 1) - n)) above-fits
         ∙ turned-is
         ∙ ap negsuc e
-        ∙ sym (subst (λ (w : ℕ). signed w n ≡ negsuc (2 ^ w - suc n)) (sym (bits-suc W)) (signed-high (hbits W) n g (subst (λ (w : ℕ). n < 2 ^ w) (bits-suc W) l)))
+        ∙ sym (subst (λ (w : ℕ). signedBits w n ≡ negsuc (2 ^ w - suc n)) (sym (bits-suc W)) (signed-high (hbits W) n g (subst (λ (w : ℕ). n < 2 ^ w) (bits-suc W) l)))
 
 -- a difference of two small numbers fits, either way
 difference-fits : (W : Width) (n b : ℕ) → n < 2 ^ hbits W → suc b < 2 ^ hbits W → SFits W (pos n -ℤ pos (suc b))

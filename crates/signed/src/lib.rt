@@ -3,11 +3,11 @@
 // Document 01: "angles at E0h and E4h are the low 16 bits, signed, over 10"; "tags 1501h and 1201h are signed". In `of_alexa35` the
 // whole numbers are signed, and in Canon's packs a value lies around 80h or 8000h.
 ghost use mathlib.Core.Path.{_≡_};
-ghost use Rattle.signed.specs.Signed.{signed, around};
+ghost use Rattle.signed.specs.Signed.{signedBits, around};
 
 // The 16 bits of v as a signed number.
 pub fn signed16(v: u16) -> i16
-    ensures { λ r. ⌜ r ≡ signed 16 v ⌝ }
+    ensures { λ r. ⌜ r ≡ signedBits 16 v ⌝ }
 {
     if v < 32768 {
         v as i16
@@ -18,7 +18,7 @@ pub fn signed16(v: u16) -> i16
 
 // The 32 bits of v as a signed number.
 pub fn signed32(v: u32) -> i32
-    ensures { λ r. ⌜ r ≡ signed 32 v ⌝ }
+    ensures { λ r. ⌜ r ≡ signedBits 32 v ⌝ }
 {
     if v < 2147483648 {
         v as i32
@@ -29,7 +29,7 @@ pub fn signed32(v: u32) -> i32
 
 // The 64 bits of v as a signed number.
 pub fn signed64(v: u64) -> i64
-    ensures { λ r. ⌜ r ≡ signed 64 v ⌝ }
+    ensures { λ r. ⌜ r ≡ signedBits 64 v ⌝ }
 {
     if v < 9223372036854775808 {
         v as i64

@@ -8,7 +8,7 @@ use lib.Pow.{field}
 use lib.Ieee.{binary32, binary64, ofBits, toBits, fits}
 use lib.Ieee.Bits.{toBits-lt}
 use lib.Ieee.Nearest.{closest}
-use Rattle.floats.specs.Rounding.{narrowF32, packed}
+use Rattle.floats.specs.Rounding.{narrowF32, packedBits}
 use Rattle.floats.proofs.Round.{packed-le}
 use Rattle.floats.proofs.Patterns.{no-nan, not-nan, is-itself, zero-by-zero}
 use Rattle.floats.proofs.Narrows.{narrowBits, narrow-bits}
@@ -83,7 +83,7 @@ returns-2 c =
     let K : c .before .less2 .result ≡ e - 897 = c .before .less2 .ensures ∙ ap (λ (n : ℕ). n - 897) F in
     let D : 29 + c .before .before .least .result ≡ 29 + min (897 - e) 34 =
     ap (λ (n : ℕ). 29 + n) (c .before .before .least .ensures ∙ ap (λ (n : ℕ). min n 34) (c .before .before .before .less .ensures ∙ ap (λ (n : ℕ). 897 - n) F)) in
-    let Q = ap₂ (λ (k d : ℕ). packed binary32 k (closest (b % 2 ^ 52 + 2 ^ 52) (2 ^ d))) K D in
+    let Q = ap₂ (λ (k d : ℕ). packedBits binary32 k (closest (b % 2 ^ 52 + 2 ^ 52) (2 ^ d))) K D in
     ap (ofBits binary32) (ap₂ (λ (m n : ℕ). m + n) (sign b (wide c)) (c .packed-f32 .ensures ∙ Q)) ∙ sym (narrow-bits x fit (not-nan x (c .before .before .before .before .if1 .left)))
 
 pub narrow-f32-spec : {M : Type 1} → statement M

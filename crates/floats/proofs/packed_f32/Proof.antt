@@ -8,7 +8,7 @@ use lib.Ieee.{binary32}
 use lib.Ieee.Nearest.{closest}
 use lib.Pow.{pow-pos, pow-mono, shl-exact}
 use borrow.Author.Needs.{needs}
-use Rattle.floats.specs.Rounding.{packed}
+use Rattle.floats.specs.Rounding.{packedBits}
 use Rattle.floats.proofs.Halves.{at-most}
 use Rattle.floats.proofs.packed_f32.Statement.{statement}
 use Rattle.floats.proofs.packed_f32.Tie as tie
@@ -45,8 +45,8 @@ cast-result : tie.Need-cast-result
 cast-result c = search needs
 
 returns : tie.Need-returns
-unfolding packed
-returns c = c .least .ensures ∙ ap (packed binary32 (c .before .before .args .raised)) (digits-are (c .before))
+unfolding packedBits
+returns c = c .least .ensures ∙ ap (packedBits binary32 (c .before .before .args .raised)) (digits-are (c .before))
 
 pub packed-f32-spec : {M : Type 1} → statement M
 packed-f32-spec =
