@@ -242,18 +242,17 @@ fn lines(kind: u8, inputs: &[u64]) {
     }
 }
 
+// Writes the lines of each kind over the same inputs.
+fn table(kinds: &[u8], inputs: &[u64]) {
+    let mut i = 0;
+    while i < kinds.len() {
+        lines(kinds[i], inputs);
+        i += 1;
+    }
+}
+
 fn main() {
-    lines(b'w', &WHOLE);
-    lines(b't', &WHOLE);
-    lines(b'm', &WHOLE);
-    lines(b'i', &WHOLE);
-    lines(b'a', &WHOLE);
-    lines(b'b', &WHOLE);
-    lines(b'd', &WHOLE);
-    lines(b'n', &WIDE);
-    lines(b'f', &WIDE);
-    lines(b'r', &PAIRS);
-    lines(b's', &PAIRS);
-    lines(b'g', &PAIRS);
-    lines(b'o', &WHOLE);
+    table(b"wtmiabdo", &WHOLE);
+    table(b"nf", &WIDE);
+    table(b"rsg", &PAIRS);
 }
