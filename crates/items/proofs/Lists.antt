@@ -1,0 +1,33 @@
+-- The list of a run goes as its steps say, and an answer says which. Assumes nothing.
+use Prim.Native.Nat.{ℕ, _+_, _<_}
+use mathlib.Core.Path.{_≡_, refl}
+use mathlib.Core.List.{List}
+use mathlib.Core.Bool.{Bool}
+use native.Mathlib.Omega.{arith}
+use lib.ListN.{length}
+use Rattle.steps.specs.Told.{Told, found, nothing}
+use Rattle.steps.specs.Listed.{before, listFrom}
+use Rattle.steps.proofs.Laws.{Moves, listed}
+use Rattle.klv.specs.Item.{Item, item}
+use Rattle.items.specs.declared.Found.{Found}
+use Rattle.items.specs.declared.Found.the-variants as answer
+use Rattle.items.specs.Items.{itemStep, runStep}
+use Rattle.items.specs.Told.{told}
+use Rattle.items.proofs.Laws.{Fit, item-fits}
+
+pub item-moves : (key : ℕ) (ber : Bool) (s : List ℕ) → Moves (itemStep key ber s) (length s)
+item-moves key ber s p i next e = omega (arith, item-fits key ber s p i next e)
+
+-- each step of a run gives the next of its list, and the end comes exactly at the list's end
+pub run-listed : (s : List ℕ) (p : ℕ) → listFrom (runStep s) (length s) p ≡ before (listFrom (runStep s) (length s)) (runStep s p)
+run-listed s = listed (runStep s) (length s) (item-moves 16 _ s)
+
+-- two answers that say the same are the same
+pub told-once : (s : List ℕ) (p : ℕ) (a b : Found) → told s p a ≡ told s p b → a ≡ b
+told-once s p (answer.Item k m) (answer.Item l n) e =
+    let x : item 16 s k ≡ item 16 s l = cc in
+    let y : m .at ≡ n .at = cc in
+    λ i. answer.Item (x i .klv) (record { at = y i })
+told-once s p (answer.Item k m) answer.End e = let z : _≡_ {A = ℕ} 0 1 = cc in absurd (omega arith)
+told-once s p answer.End (answer.Item l n) e = let z : _≡_ {A = ℕ} 0 1 = cc in absurd (omega arith)
+told-once s p answer.End answer.End e = refl

@@ -1,0 +1,79 @@
+// Items one behind the other, each a key or tag, a length and a value, up to the first that isn't whole: document 01,
+// "A run (`klvs`) is 16 bytes of any kind, a length, a value, repeated to the first that isn't whole. It looks for no
+// key start." A set's local items are the same step over another coding.
+ghost use mathlib.Core.Path.{_≡_};
+ghost use Rattle.items.specs.Items.{lengthIn, itemStep, runStep};
+ghost use Rattle.items.specs.Told.{wholeTold, told};
+use klv::Klv;
+use lengths::Length;
+
+// The length at a place in one of the two codings: BER, or two bytes.
+fn length_in(s: &[u8], at: usize, ber: bool) -> Length
+    ensures { λ r. ⌜ r ≡ lengthIn ber (now (s .entry)) at ⌝ }
+{
+    if ber {
+        return lengths::read(s, at);
+    }
+    lengths::read_two(s, at)
+}
+
+// An item that is whole, or none.
+enum Whole {
+    Is(Klv),
+    No,
+}
+
+// The item at a place whose key takes that many bytes.
+fn item_at(s: &[u8], at: usize, key: usize, ber: bool) -> Whole
+    ensures { λ r. ⌜ wholeTold key (now (s .entry)) at r ≡ itemStep key ber (now (s .entry)) at ⌝ }
+{
+    if s.len() < key {
+        return Whole::No;
+    }
+    if s.len() - key < at {
+        return Whole::No;
+    }
+    let after = at + key;
+    let l = length_in(s, after, ber);
+    let Length::Is(f) = l else {
+        return Whole::No;
+    };
+    let value = after + f.size;
+    let n = f.value;
+    let room = s.len() - value;
+    if (room as u64) < n {
+        return Whole::No;
+    }
+    Whole::Is(Klv {
+        at,
+        value,
+        len: n as usize,
+    })
+}
+
+// Where a run is read.
+pub struct Run {
+    pub at: usize,
+}
+
+// What a step of a run finds.
+pub enum Found {
+    // A KLV, and the cursor past it.
+    Item(Klv, Run),
+    // No whole one is left.
+    End,
+}
+
+impl Run {
+    // The KLV at the cursor, with the moved cursor, or the end.
+    pub fn step(self, s: &[u8]) -> Found
+        ensures { λ r. ⌜ told (now (s .entry)) (self .at) r ≡ runStep (now (s .entry)) (self .at) ⌝ }
+    {
+        let w = item_at(s, self.at, 16, true);
+        let Whole::Is(k) = w else {
+            return Found::End;
+        };
+        let next = k.value + k.len;
+        Found::Item(k, Run { at: next })
+    }
+}

@@ -1,0 +1,29 @@
+-- Labels: document 01, "Lengths and labels".
+use Prim.Native.Nat.{ℕ, zero, suc, _+_}
+use mathlib.Core.List.{List}
+use mathlib.Core.Bool.{Bool, true, _&&_, _||_}
+use lib.ListN.{length, getD, take, drop}
+use lib.Dec.{eqb}
+
+-- the first n bytes agree, but for those at x, y and z
+unfoldable pub firstAgree : ℕ → ℕ → ℕ → List ℕ → List ℕ → ℕ → Bool
+firstAgree x y z a b zero = true
+firstAgree x y z a b (suc n) =
+    firstAgree x y z a b n && ((eqb n x || (eqb n y || eqb n z)) || eqb (getD a n 0) (getD b n 0))
+
+-- both have 16 bytes, and agree in all but those at x, y and z
+unfoldable pub agreeBut : ℕ → ℕ → ℕ → List ℕ → List ℕ → Bool
+agreeBut x y z a b = eqb (length a) 16 && (eqb (length b) 16 && firstAgree x y z a b 16)
+
+-- two labels are the same when both have 16 bytes and agree in all but the byte at 7
+abbrev pub sameLabel : List ℕ → List ℕ → Bool
+sameLabel a b = agreeBut 7 7 7 a b
+
+-- the label at a place, cut to the buffer
+abbrev pub labelAt : List ℕ → ℕ → List ℕ
+labelAt s at = take 16 (drop at s)
+
+-- 06 0e 2b 34 stand at q
+unfoldable pub keyAt : List ℕ → ℕ → Bool
+keyAt s q =
+    eqb (getD s q 0) 0x06 && (eqb (getD s (q + 1) 0) 0x0e && (eqb (getD s (q + 2) 0) 0x2b && eqb (getD s (q + 3) 0) 0x34))

@@ -1,0 +1,79 @@
+// Labels: document 01, "Lengths and labels". Two labels are the same when both have 16 bytes and agree in all but the
+// byte at 7.
+ghost use mathlib.Core.Path.{_≡_};
+ghost use Rattle.labels.specs.Label.{agreeBut, sameLabel, labelAt};
+
+// What every key starts with: a SMPTE universal label's first bytes (ST 336).
+pub const KEY_START: [u8; 4] = [0x06, 0x0e, 0x2b, 0x34];
+
+// The partition packs' labels, ahead of their kind (2 the header's, 3 a body's, 4 the footer's), their status and 0
+// (ST 377-1).
+pub const PARTITION_PREFIX: [u8; 13] = [
+    0x06,
+    0x0e,
+    0x2b,
+    0x34,
+    0x02,
+    0x05,
+    0x01,
+    0x01,
+    0x0d,
+    0x01,
+    0x02,
+    0x01,
+    0x01,
+];
+
+// The primer pack (ST 377-1).
+pub const PRIMER: [u8; 16] = [
+    0x06,
+    0x0e,
+    0x2b,
+    0x34,
+    0x02,
+    0x05,
+    0x01,
+    0x01,
+    0x0d,
+    0x01,
+    0x02,
+    0x01,
+    0x01,
+    0x05,
+    0x01,
+    0x00,
+];
+
+// Whether two labels have 16 bytes each and agree in all but those at three places. No branch on a byte, so that the 16
+// are compared at once.
+pub fn agree_but(a: &[u8], b: &[u8], x: usize, y: usize, z: usize) -> bool
+    ensures { λ r. ⌜ r ≡ agreeBut x y z (now (a .entry)) (now (b .entry)) ⌝ }
+{
+    if a.len() != 16 {
+        return false;
+    }
+    if b.len() != 16 {
+        return false;
+    }
+    let mut agree = true;
+    let mut i = 0;
+    while i < 16 {
+        agree = agree & (((i == x) | ((i == y) | (i == z))) | (a[i] == b[i]));
+        i += 1;
+    }
+    agree
+}
+
+// Whether two labels are the same: the byte at 7, the registry's version, doesn't count.
+pub fn same_label(a: &[u8], b: &[u8]) -> bool
+    ensures { λ r. ⌜ r ≡ sameLabel (now (a .entry)) (now (b .entry)) ⌝ }
+{
+    agree_but(a, b, 7, 7, 7)
+}
+
+// The 16 bytes of the label at a place: as many of them as are there.
+pub fn label(s: &[u8], at: usize) -> &[u8]
+    ensures { λ r. ⌜ now r ≡ labelAt (now (s .entry)) at ⌝ }
+{
+    parts::part(s, at, 16)
+}

@@ -1,0 +1,37 @@
+-- Laws of the numbers that bytes hold. Assumes nothing.
+use Prim.Native.Nat.{ℕ, zero, suc, _+_, _*_, _%_, _^_, _≤_, _<_}
+use mathlib.Core.Path.{_≡_, refl, sym}
+use mathlib.Core.List.{List}
+use native.Mathlib.Nat.{pow-le-pow-right, lt-of-lt-of-le, pow-zero, zero-add}
+use native.Mathlib.Numerals.{add-one}
+use native.Mathlib.Omega.{arith}
+use lib.ListN.{length, getD}
+use lib.Dec.{lit<}
+use Rattle.parts.specs.Number.{numberAt, numberOf}
+use Rattle.parts.proofs.Bytes.{Bytes, Same, within}
+
+-- one byte more
+pub number-more : (s : List ℕ) (from n : ℕ) → numberAt s from (n + 1) ≡ numberAt s from n * 256 + getD s (from + n) 0
+unfolding numberAt
+number-more s from n = rw add-one
+
+-- n bytes hold a number below 256 to the n
+pub number-below : (s : List ℕ) (from n : ℕ) → Bytes s → numberAt s from n < 256 ^ n
+unfolding numberAt
+number-below s from zero b = rw pow-zero (lit< tt)
+number-below s from (suc n) b = omega (arith, number-below s from n b, b (from + n))
+
+-- so up to eight fit in 64 bits
+pub number-fits : (s : List ℕ) (from n : ℕ) → Bytes s → n ≤ 8 → numberAt s from n < 2 ^ 64
+number-fits s from n b h = lt-of-lt-of-le (number-below s from n b) (pow-le-pow-right {n = 256} (lit< tt) {j = 8} h)
+
+-- it is read from its span alone
+pub number-same : (s t : List ℕ) (from n : ℕ) → Same s t from n → numberAt t from n ≡ numberAt s from n
+unfolding numberAt
+number-same s t from zero same = refl
+number-same s t from (suc n) same =
+    rw (number-same s t from n (within same from n (omega arith) (omega arith)), same .equal (from + n) (omega arith) (omega arith))
+
+-- the low 64 bits of one byte more: the low 56 bits leave room for it
+pub low-more : (s : List ℕ) (n : ℕ) → getD s n 0 < 256 → numberAt s 0 n % 2 ^ 64 % 2 ^ 56 * 256 + getD s n 0 ≡ numberAt s 0 (n + 1) % 2 ^ 64
+low-more s n h = rw (number-more s 0 n, zero-add n) (omega arith)

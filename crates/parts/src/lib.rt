@@ -1,0 +1,42 @@
+// The bytes at a place: a part of the buffer, cut to what is there, and the number that bytes hold.
+// Document 01: "numbers are big-endian"; "`vec![0; length]`: parts of the buffer".
+ghost use mathlib.Core.Path.{_≡_};
+ghost use Prim.Native.Nat.{_%_, _^_, min};
+ghost use lib.ListN.{take, drop};
+ghost use Rattle.parts.specs.Number.{numberOf};
+
+// The smaller of two.
+fn lesser(a: usize, b: usize) -> usize
+    ensures { λ r. ⌜ r ≡ min a b ⌝ }
+{
+    if a <= b { a } else { b }
+}
+
+// The part of at most len bytes from a place on: as much of it as is there.
+pub fn part(s: &[u8], at: usize, len: usize) -> &[u8]
+    ensures { λ r. ⌜ now r ≡ take len (drop at (now (s .entry))) ⌝ }
+{
+    let start = lesser(at, s.len());
+    let end = start + lesser(len, s.len() - start);
+    &s[start..end]
+}
+
+// A byte as a wider number.
+pub fn wide(b: u8) -> u64
+    ensures { λ r. ⌜ r ≡ b ⌝ }
+{
+    b as u64
+}
+
+// The number that the bytes hold, the first one the highest; of more than eight bytes its low 64 bits.
+pub fn number(s: &[u8]) -> u64
+    ensures { λ r. ⌜ r ≡ numberOf (now (s .entry)) % 2 ^ 64 ⌝ }
+{
+    let mut value: u64 = 0;
+    let mut i = 0;
+    while i < s.len() {
+        value = value % 0x100_0000_0000_0000 * 256 + wide(s[i]);
+        i += 1;
+    }
+    value
+}

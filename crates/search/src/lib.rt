@@ -1,0 +1,177 @@
+// The search for 06 0e 2b 34, and where a search waits that finds none: document 01, "The walk", rule 2, and "The
+// arriving walk".
+ghost use mathlib.Core.Path.{_≡_};
+ghost use mathlib.Core.Bool.{false};
+ghost use Prim.Native.Nat.{_+_, _≤_, min};
+ghost use lib.ListN.{length};
+ghost use Rattle.labels.specs.Label.{keyAt};
+ghost use Rattle.search.specs.Search.{searchFrom, nextKey, keyBegins, waitFrom, Passes};
+use labels::KEY_START;
+
+// Whether the four bytes at a place are those that a key starts with.
+fn stands(s: &[u8], q: usize) -> bool
+    requires { ⌜ q + 4 ≤ length (now s) ⌝ }
+    ensures { λ r. ⌜ r ≡ keyAt (now (s .entry)) q ⌝ }
+{
+    (s[q] == 0x06) & ((s[q + 1] == 0x0e) & ((s[q + 2] == 0x2b) & (s[q + 3] == 0x34)))
+}
+
+// Whether a key's start stands at a place, which may lie anywhere.
+pub fn key_at(s: &[u8], q: usize) -> bool
+    ensures { λ r. ⌜ r ≡ keyAt (now (s .entry)) q ⌝ }
+{
+    if s.len() < 4 {
+        return false;
+    }
+    if s.len() - 4 < q {
+        return false;
+    }
+    stands(s, q)
+}
+
+// The search place by place.
+fn scan(s: &[u8], end: usize, from: usize) -> usize
+    requires { ⌜ end ≤ length (now s) ⌝ }
+    ensures { λ r. ⌜ r ≡ searchFrom (now (s .entry)) end from ⌝ }
+{
+    if end <= from {
+        return from;
+    }
+    if end < 4 {
+        return end;
+    }
+    let last = end - 4;
+    let mut q = from;
+    while q <= last {
+        if stands(s, q) {
+            return q;
+        }
+        q += 1;
+    }
+    end
+}
+
+// Whether the first and the last byte of a key's start stand at one of 64 places. No branch on a byte, so that the
+// compiler compares many at once and no input slows it.
+fn ends_among(s: &[u8], at: usize) -> bool
+    requires { ⌜ at + 67 ≤ length (now s) ⌝ }
+    ensures { λ r. ⌜ (r ≡ false → Passes (now (s .entry)) at (at + 64)) ⌝ }
+{
+    let mut hit = false;
+    let mut k = 0;
+    while k < 64 {
+        hit = hit | ((s[at + k] == 0x06) & (s[at + k + 3] == 0x34));
+        k += 1;
+    }
+    hit
+}
+
+// Whether a key's start stands at one of 16 places, likewise.
+fn key_among(s: &[u8], at: usize) -> bool
+    requires { ⌜ at + 19 ≤ length (now s) ⌝ }
+    ensures { λ r. ⌜ (r ≡ false → Passes (now (s .entry)) at (at + 16)) ⌝ }
+{
+    let mut hit = false;
+    let mut k = 0;
+    while k < 16 {
+        hit = hit | stands(s, at + k);
+        k += 1;
+    }
+    hit
+}
+
+// How far a search goes in 64 places: past them, or to the 16 that have a key's start.
+fn pass(s: &[u8], at: usize) -> usize
+    requires { ⌜ at + 67 ≤ length (now s) ⌝ }
+    ensures { λ r. ⌜ (r ≤ at + 64) × Passes (now (s .entry)) at r ⌝ }
+{
+    if !ends_among(s, at) {
+        return at + 64;
+    }
+    let mut k = 0;
+    while k <= 48 {
+        if key_among(s, at + k) {
+            return at + k;
+        }
+        k += 16;
+    }
+    at + k
+}
+
+// The search in blocks of 64 places, and place by place from the 16 that have a key's start and after the last block.
+fn seek(s: &[u8], end: usize, from: usize) -> usize
+    requires { ⌜ end ≤ length (now s) ⌝ }
+    ensures { λ r. ⌜ r ≡ searchFrom (now (s .entry)) end from ⌝ }
+{
+    if end < 67 {
+        return scan(s, end, from);
+    }
+    let last = end - 67;
+    let mut q = from;
+    while q <= last {
+        let r = pass(s, q);
+        if r < q + 64 {
+            return scan(s, end, r);
+        }
+        q = r;
+    }
+    scan(s, end, q)
+}
+
+// The first place from one on where a key's start stands wholly before the end, else the end, which is cut to the
+// buffer's; the place itself where it lies at or past the end.
+pub fn next_key(s: &[u8], end: usize, from: usize) -> usize
+    ensures { λ r. ⌜ r ≡ nextKey (now (s .entry)) end from ⌝ }
+{
+    if s.len() < end {
+        return seek(s, s.len(), from);
+    }
+    seek(s, end, from)
+}
+
+// Whether all bytes from a place to the end are a beginning of a key's start.
+fn key_begins(a: &[u8], q: usize) -> bool
+    ensures { λ r. ⌜ r ≡ keyBegins (now (a .entry)) q ⌝ }
+{
+    let mut i = 0;
+    let mut at = q;
+    while at < a.len() {
+        if 4 <= i {
+            return false;
+        }
+        if a[at] != KEY_START[i] {
+            return false;
+        }
+        i += 1;
+        at += 1;
+    }
+    true
+}
+
+// The first place from one on from which all bytes begin a key's start, else the end, place by place.
+fn begin_from(a: &[u8], from: usize) -> usize
+    ensures { λ r. ⌜ r ≡ waitFrom (now (a .entry)) from ⌝ }
+{
+    let mut q = from;
+    while q < a.len() {
+        if key_begins(a, q) {
+            return q;
+        }
+        q += 1;
+    }
+    q
+}
+
+// The same, looking at the last four bytes alone: from no earlier place do all bytes begin a key's start.
+pub fn wait_from(a: &[u8], from: usize) -> usize
+    ensures { λ r. ⌜ r ≡ waitFrom (now (a .entry)) from ⌝ }
+{
+    if a.len() < 4 {
+        return begin_from(a, from);
+    }
+    let near = a.len() - 4;
+    if from < near {
+        return begin_from(a, near);
+    }
+    begin_from(a, from)
+}

@@ -1,0 +1,20 @@
+-- The list that stepping gives: each step's item, then the list from the cursor that it hands back.
+use Prim.Native.Nat.{ℕ, zero, suc, _-_}
+use mathlib.Core.List.{List, [], _∷_}
+use Rattle.steps.specs.Told.{Told, found, nothing, refused}
+
+-- a step's item before what comes from its cursor on; no item ends the list
+unfoldable pub before : {A : Type 0} → (ℕ → List A) → Told A → List A
+before again (found a q) = a ∷ again q
+before again (nothing q) = []
+before again (refused n q) = []
+
+-- the items of at most `fuel` steps from p on
+unfoldable pub atMost : {A : Type 0} → (ℕ → Told A) → ℕ → ℕ → List A
+atMost step zero p = []
+atMost step (suc fuel) p = before (λ q. atMost step fuel q) (step p)
+
+-- the items of the steps from p on, where every item starts below e and moves the cursor up, so that these steps are
+-- enough (`listed` of proofs/)
+unfoldable pub listFrom : {A : Type 0} → (ℕ → Told A) → ℕ → ℕ → List A
+listFrom step e p = atMost step (suc (e - p)) p
