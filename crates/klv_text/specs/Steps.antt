@@ -1,0 +1,21 @@
+-- The steps of a walk or a run as text: `p,label,v,length;` for each record, and then what the last step says (docs/CASES.md).
+use Prim.Native.Nat.{ℕ, zero, suc, _-_}
+use mathlib.Core.List.{List, [], _∷_, _++_}
+use Rattle.steps.specs.Told.{Told, found, nothing, refused}
+use Rattle.klv.specs.Item.{Item}
+use Rattle.klv_text.specs.Text.{itemText}
+
+-- a record, and the text of the steps from its cursor on; a step with no record is the last
+unfoldable pub onward : (Told Item → List ℕ) → (ℕ → List ℕ) → Told Item → List ℕ
+onward last again (found i q) = itemText 44 i ++ (59 ∷ []) ++ again q
+onward last again (nothing q) = last (nothing q)
+onward last again (refused n q) = last (refused n q)
+
+-- at most `fuel` steps from p on
+unfoldable pub stepsAtMost : (Told Item → List ℕ) → (ℕ → Told Item) → ℕ → ℕ → List ℕ
+stepsAtMost last step zero p = []
+stepsAtMost last step (suc fuel) p = onward last (λ q. stepsAtMost last step fuel q) (step p)
+
+-- the steps from p on: every record starts below e and moves the cursor up, so these are enough
+unfoldable pub stepsFrom : (Told Item → List ℕ) → (ℕ → Told Item) → ℕ → ℕ → List ℕ
+stepsFrom last step e p = stepsAtMost last step (suc (e - p)) p
