@@ -1,0 +1,99 @@
+-- The walk goes turn by turn: the fuel of `specs/Walk.antt` is enough. Assumes nothing.
+use Prim.Native.Nat.{ℕ, zero, suc, _+_, _-_, _≤_, _<_}
+use mathlib.Core.Path.{_≡_, refl, sym, ap, _∙_}
+use mathlib.Core.List.{List}
+use mathlib.Core.Logic.{by-cases}
+use native.Mathlib.Omega.{arith}
+use native.Mathlib.Decide.{decLt}
+use borrow.Author.Tests.{le-ltb, lt-ltb}
+use Rattle.search.specs.Search.{searchFrom}
+use Rattle.search.proofs.Laws.{search-up}
+use Rattle.klv.specs.declared.Klv.{Klv}
+use Rattle.walk.specs.declared.Turn.{Turn}
+use Rattle.walk.specs.declared.Turn.the-variants.{Stop, Search, Record}
+use Rattle.walk.specs.declared.Walked.{Walked}
+use Rattle.walk.specs.declared.Walked.the-variants.{Found, Stopped, Lost}
+use Rattle.walk.specs.Rules.{rules}
+use Rattle.walk.specs.Walk.{onTurn, turnsAtMost, walked}
+use Rattle.walk.proofs.Laws.{rules-moves, rules-record, Fit}
+
+module _ (s : List ℕ) (e : ℕ) where
+  turn-found : (again : ℕ → Walked) (p q : ℕ) → searchFrom s e q < e → onTurn again s e p (Search q) ≡ again (searchFrom s e q)
+  unfolding onTurn
+  turn-found again p q h = simp (lt-ltb _ _ h)
+
+  turn-lost : (again : ℕ → Walked) (p q : ℕ) → e ≤ searchFrom s e q → onTurn again s e p (Search q) ≡ Lost q
+  unfolding onTurn
+  turn-lost again p q h = simp (le-ltb _ _ h)
+
+  -- a turn goes on only where a search finds a key below e
+  turn-same : (f g : ℕ → Walked) (p : ℕ) (t : Turn) → ((q : ℕ) → t ≡ Search q → searchFrom s e q < e → f (searchFrom s e q) ≡ g (searchFrom s e q))
+      → onTurn f s e p t ≡ onTurn g s e p t
+  unfolding onTurn
+  turn-same f g p Stop h = refl
+  turn-same f g p (Search q) h =
+      by-cases (decLt (searchFrom s e q) e)
+      (λ l. turn-found f p q l ∙ h q refl l ∙ sym (turn-found g p q l))
+      (λ l. turn-lost f p q (omega arith) ∙ sym (turn-lost g p q (omega arith)))
+  turn-same f g p (Record k) h = refl
+
+module _ (limit : ℕ) (s : List ℕ) (e : ℕ) where
+  -- a search goes up from the place that asks for it
+  pub up : (p q : ℕ) → rules limit s e p ≡ Search q → (p < searchFrom s e q) × (p < e)
+  up p q x = omega (arith, rules-moves limit s e p q x, search-up s e q)
+
+  enough : (f g p : ℕ) → e - p < f → e - p < g → turnsAtMost limit s e f p ≡ turnsAtMost limit s e g p
+  unfolding turnsAtMost
+  enough zero g p h k = absurd (omega arith)
+  enough (suc f) zero p h k = absurd (omega arith)
+  enough (suc f) (suc g) p h k =
+      turn-same s e (turnsAtMost limit s e f) (turnsAtMost limit s e g) p (rules limit s e p)
+      (λ q x l. let m = up p q x in enough f g (searchFrom s e q) (omega arith) (omega arith))
+
+  pub turn-by-turn : (p : ℕ) → walked limit s e p ≡ onTurn (walked limit s e) s e p (rules limit s e p)
+  unfolding turnsAtMost walked
+  turn-by-turn p =
+      turn-same s e (turnsAtMost limit s e (e - p)) (λ q. turnsAtMost limit s e (suc (e - q)) q) p (rules limit s e p)
+      (λ q x l. let m = up p q x in enough (e - p) (suc (e - searchFrom s e q)) (searchFrom s e q) (omega arith) (omega arith))
+
+  module _ (p : ℕ) where
+    pub walk-stop : rules limit s e p ≡ Stop → walked limit s e p ≡ Stopped p
+    unfolding onTurn
+    walk-stop t = turn-by-turn p ∙ simp t
+
+    pub walk-record : (k : Klv) → rules limit s e p ≡ Record k → walked limit s e p ≡ Found k
+    unfolding onTurn
+    walk-record k t = turn-by-turn p ∙ simp t
+
+    module _ (q : ℕ) (t : rules limit s e p ≡ Search q) where
+      pub walk-on : searchFrom s e q < e → walked limit s e p ≡ walked limit s e (searchFrom s e q)
+      walk-on l = turn-by-turn p ∙ ap (onTurn (walked limit s e) s e p) t ∙ turn-found s e (walked limit s e) p q l
+
+      pub walk-lost : e ≤ searchFrom s e q → walked limit s e p ≡ Lost q
+      walk-lost l = turn-by-turn p ∙ ap (onTurn (walked limit s e) s e p) t ∙ turn-lost s e (walked limit s e) p q l
+
+  -- a record that is found is the rules' at a place from p on
+  found-from : (fuel p : ℕ) (k : Klv) → turnsAtMost limit s e fuel p ≡ Found k → (q : ℕ) × (p ≤ q) × (rules limit s e q ≡ Record k)
+  unfolding turnsAtMost onTurn
+  found-from zero p k x = absurd (let z : _≡_ {A = ℕ} 0 1 = cc in omega arith)
+  found-from (suc fuel) p k x = go (rules limit s e p) refl x (λ m. found-from fuel m k)
+    where
+      go : (t : Turn) → rules limit s e p ≡ t → onTurn (turnsAtMost limit s e fuel) s e p t ≡ Found k
+          → ((m : ℕ) → turnsAtMost limit s e fuel m ≡ Found k → (q : ℕ) × (m ≤ q) × (rules limit s e q ≡ Record k))
+          → (q : ℕ) × (p ≤ q) × (rules limit s e q ≡ Record k)
+      go Stop t x ih = absurd (let z : _≡_ {A = ℕ} 0 1 = cc in omega arith)
+      go (Record w) t x ih = (p, omega arith, cc)
+      go (Search r) t x ih =
+          by-cases (decLt (searchFrom s e r) e)
+          (λ l. let i = ih (searchFrom s e r) (sym (turn-found s e (turnsAtMost limit s e fuel) p r l) ∙ x) in
+          (i .0, omega (arith, up p r t), i .2))
+          (λ l. let m = turn-lost s e (turnsAtMost limit s e fuel) p r (omega arith) in
+          absurd (let z : _≡_ {A = ℕ} 0 1 = cc in omega arith))
+
+  -- so it starts at p or behind it, and its value lies in the buffer
+  pub walk-fits : (p : ℕ) (k : Klv) → walked limit s e p ≡ Found k → (p ≤ k .at) × Fit s e (k .at) k
+  unfolding walked
+  walk-fits p k x =
+      let f = found-from (suc (e - p)) p k x in
+      let fit = rules-record limit s e (f .0) k (f .2) in
+      (omega arith, record { here = refl; before = omega arith; start = omega arith; there = fit .there; within = fit .within })

@@ -1,0 +1,172 @@
+// The walk over the KLVs of a buffer: document 01, "The walk". A finished walk has a buffer and an end; the arriving walk
+// has the bytes that have arrived and a limit. Both are these rules at a place, and a search between places.
+ghost use mathlib.Core.Path.{_≡_};
+ghost use Prim.Native.Nat.{_-_, _≤_, max};
+ghost use lib.ListN.{length};
+ghost use Rattle.walk.specs.Rules.{rules};
+ghost use Rattle.walk.specs.Walk.{walked, finishedStep, arrivingStep};
+ghost use Rattle.walk.specs.Told.{stepTold, arrivedTold};
+use klv::Klv;
+use lengths::Length;
+
+// a - b, or 0 where b is the larger.
+fn less(a: usize, b: usize) -> usize
+    ensures { λ r. ⌜ r ≡ a - b ⌝ }
+{
+    if b <= a { a - b } else { 0 }
+}
+
+// The larger of two.
+fn larger(a: usize, b: usize) -> usize
+    ensures { λ r. ⌜ r ≡ max a b ⌝ }
+{
+    if a <= b { b } else { a }
+}
+
+// What the rules say at a place.
+pub enum Turn {
+    // The step ends here.
+    Stop,
+    // A key is to be searched from this place on.
+    Search(usize),
+    // A record starts here.
+    Record(Klv),
+}
+
+// Rules 1 to 4 at a place. A value that is missing is waited for if it ends within the limit: a finished walk, which
+// waits for nothing, has the limit 0.
+fn look(s: &[u8], end: usize, limit: usize, p: usize) -> Turn
+    requires { ⌜ end ≤ length (now s) ⌝ }
+    ensures { λ r. ⌜ r ≡ rules limit (now (s .entry)) end p ⌝ }
+{
+    if end < 17 {
+        return Turn::Stop;
+    }
+    if end - 17 < p {
+        return Turn::Stop;
+    }
+    if !search::key_at(s, p) {
+        return Turn::Search(p + 1);
+    }
+    let l = lengths::read(s, p + 16);
+    if let Length::Cut = l {
+        return Turn::Stop;
+    }
+    let Length::Is(f) = l else {
+        return Turn::Search(p + 17);
+    };
+    let v = p + 16 + f.size;
+    let n = f.value;
+    if n <= less(end, v) as u64 {
+        return Turn::Record(Klv {
+            at: p,
+            value: v,
+            len: n as usize,
+        });
+    }
+    if n <= less(limit, v) as u64 {
+        return Turn::Stop;
+    }
+    Turn::Search(v)
+}
+
+// Where the turns from a place on lead.
+pub enum Walked {
+    // To a record.
+    Found(Klv),
+    // To a place where the step ends.
+    Stopped(usize),
+    // To a search, from this place, that finds no key.
+    Lost(usize),
+}
+
+// The rules from a place on, turn by turn.
+fn turns(s: &[u8], end: usize, limit: usize, from: usize) -> Walked
+    requires { ⌜ end ≤ length (now s) ⌝ }
+    ensures { λ r. ⌜ r ≡ walked limit (now (s .entry)) end from ⌝ }
+{
+    let mut p = from;
+    loop {
+        let t = look(s, end, limit, p);
+        match t {
+            Turn::Stop => return Walked::Stopped(p),
+            Turn::Record(k) => return Walked::Found(k),
+            Turn::Search(q) => {
+                let r = search::next_key(s, end, q);
+                if end <= r {
+                    return Walked::Lost(q);
+                }
+                p = r;
+            }
+        }
+    }
+}
+
+// Where a walk stands.
+pub struct Cursor {
+    pub at: usize,
+}
+
+// What a step of the finished walk finds.
+pub enum Step {
+    // A record, and the cursor past it.
+    Record(Klv, Cursor),
+    // The walk is over.
+    Over(Cursor),
+    // The end is larger than the buffer.
+    Refused,
+}
+
+// What a step of the arriving walk finds.
+pub enum Arrived {
+    // A record, and the cursor past it.
+    Record(Klv, Cursor),
+    // What comes next has not arrived: the step is to be made again from this cursor.
+    Waits(Cursor),
+    // More bytes than the limit.
+    Refused,
+}
+
+impl Cursor {
+    // A step of the finished walk: the next record wholly before the end.
+    pub fn step(self, s: &[u8], end: usize) -> Step
+        ensures { λ r. ⌜ stepTold (now (s .entry)) (self .at) r ≡ finishedStep (now (s .entry)) end (self .at) ⌝ }
+    {
+        if s.len() < end {
+            return Step::Refused;
+        }
+        let w = turns(s, end, 0, self.at);
+        match w {
+            Walked::Found(k) => {
+                let next = k.value + k.len;
+                Step::Record(k, Cursor { at: next })
+            }
+            Walked::Stopped(p) => Step::Over(Cursor { at: p }),
+            Walked::Lost(q) => {
+                let at = larger(end, q);
+                Step::Over(Cursor { at })
+            }
+        }
+    }
+
+    // A step of the arriving walk: the next record that no later byte, within the limit, can unsay.
+    pub fn arrive(self, a: &[u8], limit: usize) -> Arrived
+        ensures { λ r. ⌜ arrivedTold (now (a .entry)) (self .at) r ≡ arrivingStep limit (now (a .entry)) (self .at) ⌝ }
+    {
+        if limit < a.len() {
+            return Arrived::Refused;
+        }
+        let w = turns(a, a.len(), limit, self.at);
+        match w {
+            Walked::Found(k) => {
+                let next = k.value + k.len;
+                Arrived::Record(k, Cursor { at: next })
+            }
+            Walked::Stopped(p) => Arrived::Waits(Cursor { at: p }),
+            Walked::Lost(q) => {
+                let at = search::wait_from(a, q);
+                Arrived::Waits(Cursor { at })
+            }
+        }
+    }
+}
