@@ -3,7 +3,16 @@ use Prim.Native.Nat.{ℕ, zero, suc, _-_}
 use mathlib.Core.List.{List, [], _∷_, _++_}
 use Rattle.steps.specs.Told.{Told, found, nothing, refused}
 use Rattle.klv.specs.Item.{Item}
+use Rattle.text.specs.Write.{decimalOf}
 use Rattle.klv_text.specs.Text.{itemText}
+
+-- a cursor, behind a bar
+unfoldable pub cursorText : ℕ → List ℕ
+cursorText q = (124 ∷ []) ++ decimalOf q
+
+-- `refused N`
+unfoldable pub refusedText : ℕ → List ℕ
+refusedText n = (114 ∷ 101 ∷ 102 ∷ 117 ∷ 115 ∷ 101 ∷ 100 ∷ 32 ∷ []) ++ decimalOf n
 
 -- a record, and the text of the steps from its cursor on; a step with no record is the last
 unfoldable pub onward : (Told Item → List ℕ) → (ℕ → List ℕ) → Told Item → List ℕ
