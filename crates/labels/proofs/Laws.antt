@@ -8,7 +8,7 @@ use native.Mathlib.Omega.{arith}
 use borrow.Author.Tests.{eq-eqb, ne-eqb}
 use lib.ListN.{length, getD, List·getD-eq-default}
 use lib.Dec.{eqb}
-use Rattle.parts.proofs.Bytes.{Same}
+use Rattle.parts.proofs.Spans.{Same}
 use Rattle.labels.specs.Label.{firstAgree, agreeBut, keyAt}
 
 module _ (x y z : ℕ) (a b : List ℕ) where

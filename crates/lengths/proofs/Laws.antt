@@ -8,7 +8,7 @@ use native.Mathlib.Decide.{decLt}
 use borrow.Author.Tests.{le-ltb, lt-ltb, le-leb, lt-leb}
 use lib.ListN.{length, getD, take, drop}
 use Rattle.parts.specs.Number.{numberAt, numberOf}
-use Rattle.parts.proofs.Bytes.{Bytes}
+use Rattle.parts.specs.Bytes.{Bytes}
 use Rattle.parts.proofs.Parts.{number-read}
 use Rattle.lengths.specs.declared.Field.{Field}
 use Rattle.lengths.specs.declared.Length.{Length}

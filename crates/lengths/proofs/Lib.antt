@@ -1,4 +1,3 @@
 pub mod Laws
 pub mod Spans
 pub mod Enums
-pub mod Starred

@@ -5,7 +5,7 @@ use mathlib.Core.List.{List}
 use native.Mathlib.Omega.{arith}
 use lib.ListN.{length, getD}
 use Rattle.parts.specs.Number.{numberAt}
-use Rattle.parts.proofs.Bytes.{Same, within}
+use Rattle.parts.proofs.Spans.{Same, within}
 use Rattle.parts.proofs.Numbers.{number-same}
 use Rattle.lengths.specs.declared.Field.{Field}
 use Rattle.lengths.specs.declared.Length.{Length}

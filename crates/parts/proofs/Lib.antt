@@ -1,3 +1,3 @@
-pub mod Bytes
+pub mod Spans
 pub mod Numbers
 pub mod Parts

@@ -8,7 +8,8 @@ use native.Mathlib.Omega.{arith}
 use lib.ListN.{length, getD}
 use lib.Dec.{lit<}
 use Rattle.parts.specs.Number.{numberAt, numberOf}
-use Rattle.parts.proofs.Bytes.{Bytes, Same, within}
+use Rattle.parts.specs.Bytes.{Bytes}
+use Rattle.parts.proofs.Spans.{Same, within}
 
 -- one byte more
 pub number-more : (s : List ℕ) (from n : ℕ) → numberAt s from (n + 1) ≡ numberAt s from n * 256 + getD s (from + n) 0

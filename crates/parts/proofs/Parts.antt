@@ -9,7 +9,7 @@ use native.Mathlib.Decide.{decLt}
 use lib.ListN.{length, getD, take, drop, length-take, length-drop, drop-of-length-le}
 use lib.Seq.{take-length, drop-length, take-all, getD-drop, getD-take}
 use Rattle.parts.specs.Number.{numberAt, numberOf}
-use Rattle.parts.proofs.Bytes.{Bytes}
+use Rattle.parts.specs.Bytes.{Bytes}
 use Rattle.parts.proofs.Numbers.{number-fits}
 
 drop-min : (s : List ℕ) (n : ℕ) → drop (min n (length s)) s ≡ drop n s

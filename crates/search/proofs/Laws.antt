@@ -81,9 +81,12 @@ first-up t (suc n) q = go (t q) (first-up t n (suc q))
     go true h = le-refl q
     go false h = omega arith
 
-pub search-up : (s : List ℕ) (e q : ℕ) → q ≤ searchFrom s e q
+pub below-up : (t : ℕ → Bool) (e q : ℕ) → q ≤ firstBelow t e q
 unfolding firstBelow
-search-up s e q = first-up (keyBefore s e) (e - q) q
+below-up t e q = first-up t (e - q) q
+
+pub search-up : (s : List ℕ) (e q : ℕ) → q ≤ searchFrom s e q
+search-up s e q = below-up (keyBefore s e) e q
 
 -- the bytes from q on are a beginning of the key's start from i on
 pub restBegins : List ℕ → ℕ → ℕ → Bool

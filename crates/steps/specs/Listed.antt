@@ -18,3 +18,17 @@ atMost step (suc fuel) p = before (λ q. atMost step fuel q) (step p)
 -- enough (`listed` of proofs/)
 unfoldable pub listFrom : {A : Type 0} → (ℕ → Told A) → ℕ → ℕ → List A
 listFrom step e p = atMost step (suc (e - p)) p
+
+-- the cursor that the last of these steps hands back
+unfoldable pub onward : {A : Type 0} → (ℕ → ℕ) → Told A → ℕ
+onward again (found a q) = again q
+onward again (nothing q) = q
+onward again (refused n q) = q
+
+unfoldable pub endAtMost : {A : Type 0} → (ℕ → Told A) → ℕ → ℕ → ℕ
+endAtMost step zero p = p
+endAtMost step (suc fuel) p = onward (λ q. endAtMost step fuel q) (step p)
+
+-- where the steps from p on end
+unfoldable pub endFrom : {A : Type 0} → (ℕ → Told A) → ℕ → ℕ → ℕ
+endFrom step e p = endAtMost step (suc (e - p)) p

@@ -3,26 +3,18 @@ use Rattle.items.specs.Items.{lengthIn}
 use borrow.Author.Needs.{needs}
 use Rattle.items.proofs.length_in.Statement.{statement}
 use Rattle.items.proofs.length_in.Tie as tie
-use Rattle.items.proofs.length_in.Reads as reads
-use Rattle.items.proofs.length_in.Lts as lts
-use Rattle.lengths.proofs.read.Reads as read-reads
-use Rattle.lengths.proofs.read_two.Reads as read-two-reads
 
--- src/lib.rt:15:9
 read-requires : tie.Need-read-requires
 read-requires c κs = search needs
 
--- src/lib.rt:15:9
 returns : tie.Need-returns
 unfolding lengthIn
 returns c =
     rw (c .before .if1 .taken) (c .read .ensures)
 
--- src/lib.rt:17:5
 read-two-requires : tie.Need-read-two-requires
 read-two-requires c κs = search needs
 
--- src/lib.rt:11:1
 returns-2 : tie.Need-returns-2
 unfolding lengthIn
 returns-2 c =

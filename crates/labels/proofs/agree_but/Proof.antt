@@ -7,8 +7,6 @@ use Rattle.labels.proofs.Laws.{agree-more, agree-other-a, agree-other-b
 use borrow.Author.Needs.{needs}
 use Rattle.labels.proofs.agree_but.Statement.{statement}
 use Rattle.labels.proofs.agree_but.Tie as tie
-use Rattle.labels.proofs.agree_but.Reads as reads
-use Rattle.labels.proofs.agree_but.Lts as lts
 
 abbrev Inv-loop : tie.InvT-loop
 Inv-loop a b x y z agree₀ i₀ agree i = (i ≤ 16) × (agree ≡ firstAgree x y z a b i)
@@ -16,42 +14,33 @@ Inv-loop a b x y z agree₀ i₀ agree i = (i ≤ 16) × (agree ≡ firstAgree x
 abbrev μ-loop : tie.MeasureT-loop
 μ-loop a b x y z agree₀ i₀ agree i = 16 - i
 
--- src/lib.rt:53:9
 returns : tie.Need-returns Inv-loop μ-loop
 returns c = agree-other-a _ _ _ _ _ (omega arith)
 
--- src/lib.rt:56:9
 returns-2 : tie.Need-returns-2 Inv-loop μ-loop
 returns-2 c = agree-other-b _ _ _ _ _ (omega arith) (omega arith)
 
--- src/lib.rt:60:5
 loop-holds : tie.Need-loop-holds Inv-loop μ-loop
 unfolding firstAgree
 loop-holds c = (omega arith, refl)
 
--- src/lib.rt:61:64
 shared-slice-read-agree : tie.Need-shared-slice-read-agree Inv-loop μ-loop
 shared-slice-read-agree c = search needs
 
--- src/lib.rt:61:72
 shared-slice-read-agree-2 : tie.Need-shared-slice-read-agree-2 Inv-loop μ-loop
 shared-slice-read-agree-2 c = search needs
 
--- src/lib.rt:62:9
 add-i : tie.Need-add-i Inv-loop μ-loop
 add-i c = search needs
 
--- src/lib.rt:60:5
 loop-less : tie.Need-loop-less Inv-loop μ-loop
 loop-less c = search needs
 
--- src/lib.rt:60:5
 loop-again : tie.Need-loop-again Inv-loop μ-loop
 loop-again c =
     let w = c .before .before .before in
     (omega arith, rw (w .loop .inv .1) (agree-more _ _ _ _ _ _))
 
--- src/lib.rt:49:1
 returns-3 : tie.Need-returns-3 Inv-loop μ-loop
 returns-3 c =
     let e : c .before .loop .i ≡ 16 = omega arith in

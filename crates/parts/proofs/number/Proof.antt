@@ -9,9 +9,6 @@ use Rattle.parts.proofs.Numbers.{low-more}
 use borrow.Author.Needs.{needs}
 use Rattle.parts.proofs.number.Statement.{statement}
 use Rattle.parts.proofs.number.Tie as tie
-use Rattle.parts.proofs.number.Reads as reads
-use Rattle.parts.proofs.number.Lts as lts
-use Rattle.parts.proofs.wide.Reads as wide-reads
 
 abbrev Inv-loop : tie.InvT-loop
 Inv-loop s value₀ i₀ value i = (i ≤ length s) × (value ≡ numberAt s 0 i % 2 ^ 64)
@@ -19,38 +16,30 @@ Inv-loop s value₀ i₀ value i = (i ≤ length s) × (value ≡ numberAt s 0 i
 abbrev μ-loop : tie.MeasureT-loop
 μ-loop s value₀ i₀ value i = length s - i
 
--- src/lib.rt:37:5
 loop-holds : tie.Need-loop-holds Inv-loop μ-loop
 unfolding numberAt
 loop-holds c = search needs
 
--- src/lib.rt:38:17
 mul-value : tie.Need-mul-value Inv-loop μ-loop
 mul-value c = search needs
 
--- src/lib.rt:38:59
 shared-slice-read-wide : tie.Need-shared-slice-read-wide Inv-loop μ-loop
 shared-slice-read-wide c = search needs
 
--- src/lib.rt:38:54
 wide-requires : tie.Need-wide-requires Inv-loop μ-loop
 wide-requires c κs = search needs
 
--- src/lib.rt:38:17
 add-value : tie.Need-add-value Inv-loop μ-loop
 add-value c =
     let l = c .before .before .before .loop in
     omega (arith, c .before .shared-slice-known2 .given (l .i))
 
--- src/lib.rt:39:9
 add-i : tie.Need-add-i Inv-loop μ-loop
 add-i c = search needs
 
--- src/lib.rt:37:5
 loop-less : tie.Need-loop-less Inv-loop μ-loop
 loop-less c = search needs
 
--- src/lib.rt:37:5
 loop-again : tie.Need-loop-again Inv-loop μ-loop
 loop-again c =
     let w = c .before .before .before in
@@ -60,7 +49,6 @@ loop-again c =
           (low-more s (w .loop .i) (c .before .shared-slice-known2 .given (w .loop .i) .fits)),
     )
 
--- src/lib.rt:32:1
 returns : tie.Need-returns Inv-loop μ-loop
 returns c =
     let e : c .before .loop .i ≡ length (now (c .before .before .before .args .s)) = omega arith in

@@ -5,39 +5,28 @@ use Rattle.parts.proofs.Parts.{part-cut}
 use borrow.Author.Needs.{needs}
 use Rattle.parts.proofs.part.Statement.{statement}
 use Rattle.parts.proofs.part.Tie as tie
-use Rattle.parts.proofs.part.Reads as reads
-use Rattle.parts.proofs.part.Lts as lts
-use Rattle.parts.proofs.lesser.Reads as lesser-reads
 
--- src/lib.rt:19:9
 lesser-requires : tie.Need-lesser-requires
 lesser-requires c κs = search needs
 
--- src/lib.rt:20:35
 sub-lesser : tie.Need-sub-lesser
 sub-lesser c = search needs
 
--- src/lib.rt:20:23
 lesser-requires-2 : tie.Need-lesser-requires-2
 lesser-requires-2 c κs = search needs
 
--- src/lib.rt:20:15
 add-end : tie.Need-add-end
 add-end c = search needs
 
--- src/lib.rt:21:5
 sub-result : tie.Need-sub-result
 sub-result c = search needs
 
--- src/lib.rt:21:5
 part-result-start : tie.Need-part-result-start
 part-result-start c = search needs
 
--- src/lib.rt:21:5
 part-result-end : tie.Need-part-result-end
 part-result-end c = search needs
 
--- src/lib.rt:16:1
 returns : tie.Need-returns
 returns c =
     let a = c .before .before .before .before .args in

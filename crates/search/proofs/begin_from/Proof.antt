@@ -8,9 +8,6 @@ use Rattle.search.specs.Search.{waitFrom}
 use Rattle.search.proofs.Laws.{search-here, search-next, search-end}
 use Rattle.search.proofs.begin_from.Statement.{statement}
 use Rattle.search.proofs.begin_from.Tie as tie
-use Rattle.search.proofs.begin_from.Reads as reads
-use Rattle.search.proofs.begin_from.Lts as lts
-use Rattle.search.proofs.key_begins.Reads as key-begins-reads
 
 abbrev Inv-loop : tie.InvT-loop
 Inv-loop a from q₀ q = waitFrom a q ≡ waitFrom a from
@@ -18,33 +15,26 @@ Inv-loop a from q₀ q = waitFrom a q ≡ waitFrom a from
 abbrev μ-loop : tie.MeasureT-loop
 μ-loop a from q₀ q = length a - q
 
--- src/lib.rt:212:5
 loop-holds : tie.Need-loop-holds Inv-loop μ-loop
 loop-holds c = refl
 
--- src/lib.rt:213:12
 key-begins-requires : tie.Need-key-begins-requires Inv-loop μ-loop
 key-begins-requires c κs = search needs
 
--- src/lib.rt:214:13
 returns : tie.Need-returns Inv-loop μ-loop
 returns c =
     search-here _ _ _ (omega arith) (sym (c .before .key-begins .ensures) ∙ c .if1 .taken) ∙ c .before .before .before .loop .inv
 
--- src/lib.rt:216:9
 add-q : tie.Need-add-q Inv-loop μ-loop
 add-q c = omega arith
 
--- src/lib.rt:212:5
 loop-less : tie.Need-loop-less Inv-loop μ-loop
 loop-less c = omega arith
 
--- src/lib.rt:212:5
 loop-again : tie.Need-loop-again Inv-loop μ-loop
 loop-again c =
     search-next _ _ _ (omega arith) (sym (c .before .key-begins .ensures) ∙ c .if1 .left) ∙ c .before .before .before .loop .inv
 
--- src/lib.rt:208:1
 returns-2 : tie.Need-returns-2 Inv-loop μ-loop
 returns-2 c = search-end _ _ _ (omega arith) ∙ c .before .loop .inv
 

@@ -8,8 +8,6 @@ use Rattle.search.specs.Search.{Passes}
 use Rattle.search.proofs.Laws.{passes-none, passes-more, ends-unmet}
 use Rattle.search.proofs.ends_among.Statement.{statement}
 use Rattle.search.proofs.ends_among.Tie as tie
-use Rattle.search.proofs.ends_among.Reads as reads
-use Rattle.search.proofs.ends_among.Lts as lts
 
 abbrev Inv-loop : tie.InvT-loop
 Inv-loop s at hit₀ k₀ hit k = (k ≤ 64) × (hit ≡ false → Passes s at (at + k))
@@ -17,43 +15,33 @@ Inv-loop s at hit₀ k₀ hit k = (k ≤ 64) × (hit ≡ false → Passes s at (
 abbrev μ-loop : tie.MeasureT-loop
 μ-loop s at hit₀ k₀ hit k = 64 - k
 
--- src/lib.rt:61:5
 loop-holds : tie.Need-loop-holds Inv-loop μ-loop
 loop-holds c = (omega arith, λ z. passes-none _ _)
 
--- src/lib.rt:62:25
 add-hit : tie.Need-add-hit Inv-loop μ-loop
 add-hit c = search needs
 
--- src/lib.rt:62:23
 shared-slice-read-hit : tie.Need-shared-slice-read-hit Inv-loop μ-loop
 shared-slice-read-hit c = search needs
 
--- src/lib.rt:62:47
 add-hit-2 : tie.Need-add-hit-2 Inv-loop μ-loop
 add-hit-2 c = search needs
 
--- src/lib.rt:62:47
 add-hit-3 : tie.Need-add-hit-3 Inv-loop μ-loop
 add-hit-3 c = search needs
 
--- src/lib.rt:62:45
 shared-slice-read-hit-2 : tie.Need-shared-slice-read-hit-2 Inv-loop μ-loop
 shared-slice-read-hit-2 c = search needs
 
--- src/lib.rt:63:9
 add-k : tie.Need-add-k Inv-loop μ-loop
 add-k c = search needs
 
--- src/lib.rt:61:5
 loop-less : tie.Need-loop-less Inv-loop μ-loop
 loop-less c = search needs
 
--- src/lib.rt:61:5
 loop-again : tie.Need-loop-again Inv-loop μ-loop
 loop-again c = (omega arith, passes-more _ _ _ _ _ (c .before .before .before .loop .inv .1) (ends-unmet _ _))
 
--- src/lib.rt:55:1
 returns : tie.Need-returns Inv-loop μ-loop
 returns c = let x : c .before .loop .k ≡ 64 = omega arith in rw x at (c .before .loop .inv .1)
 

@@ -8,9 +8,6 @@ use Rattle.search.specs.Search.{Passes}
 use Rattle.search.proofs.Laws.{passes-none, passes-more}
 use Rattle.search.proofs.key_among.Statement.{statement}
 use Rattle.search.proofs.key_among.Tie as tie
-use Rattle.search.proofs.key_among.Reads as reads
-use Rattle.search.proofs.key_among.Lts as lts
-use Rattle.search.proofs.stands.Reads as stands-reads
 
 abbrev Inv-loop : tie.InvT-loop
 Inv-loop s at hit₀ k₀ hit k = (k ≤ 16) × (hit ≡ false → Passes s at (at + k))
@@ -18,31 +15,24 @@ Inv-loop s at hit₀ k₀ hit k = (k ≤ 16) × (hit ≡ false → Passes s at (
 abbrev μ-loop : tie.MeasureT-loop
 μ-loop s at hit₀ k₀ hit k = 16 - k
 
--- src/lib.rt:59:5
 loop-holds : tie.Need-loop-holds Inv-loop μ-loop
 loop-holds c = (omega arith, λ z. passes-none _ _)
 
--- src/lib.rt:60:31
 add-stands : tie.Need-add-stands Inv-loop μ-loop
 add-stands c = search needs
 
--- src/lib.rt:60:21
 stands-requires : tie.Need-stands-requires Inv-loop μ-loop
 stands-requires c κs = search needs
 
--- src/lib.rt:61:9
 add-k : tie.Need-add-k Inv-loop μ-loop
 add-k c = search needs
 
--- src/lib.rt:59:5
 loop-less : tie.Need-loop-less Inv-loop μ-loop
 loop-less c = search needs
 
--- src/lib.rt:59:5
 loop-again : tie.Need-loop-again Inv-loop μ-loop
 loop-again c = (omega arith, passes-more _ _ _ _ _ (c .before .before .loop .inv .1) (λ z. sym (c .stands .ensures) ∙ z))
 
--- src/lib.rt:53:1
 returns : tie.Need-returns Inv-loop μ-loop
 returns c = let x : c .before .loop .k ≡ 16 = omega arith in rw x at (c .before .loop .inv .1)
 

@@ -5,27 +5,19 @@ use Rattle.labels.proofs.Laws.{key-cut}
 use borrow.Author.Needs.{needs}
 use Rattle.search.proofs.key_at.Statement.{statement}
 use Rattle.search.proofs.key_at.Tie as tie
-use Rattle.search.proofs.key_at.Reads as reads
-use Rattle.search.proofs.key_at.Lts as lts
-use Rattle.search.proofs.stands.Reads as stands-reads
 
--- src/lib.rt:24:9
 returns : tie.Need-returns
 returns c = sym (key-cut _ _ (omega arith))
 
--- src/lib.rt:26:8
 sub-if2 : tie.Need-sub-if2
 sub-if2 c = search needs
 
--- src/lib.rt:27:9
 returns-2 : tie.Need-returns-2
 returns-2 c = sym (key-cut _ _ (omega arith))
 
--- src/lib.rt:29:5
 stands-requires : tie.Need-stands-requires
 stands-requires c κs = search needs
 
--- src/lib.rt:20:1
 returns-3 : tie.Need-returns-3
 returns-3 c = search needs
 

@@ -7,8 +7,6 @@ use Rattle.search.specs.Search.{keyBegins}
 use Rattle.search.proofs.Laws.{restBegins, begins-here, begins-end, begins-over, begins-differs, begins-equal}
 use Rattle.search.proofs.key_begins.Statement.{statement}
 use Rattle.search.proofs.key_begins.Tie as tie
-use Rattle.search.proofs.key_begins.Reads as reads
-use Rattle.search.proofs.key_begins.Lts as lts
 
 abbrev Inv-loop : tie.InvT-loop
 Inv-loop a q i₀ at₀ i at = restBegins a at i ≡ keyBegins a q
@@ -16,43 +14,33 @@ Inv-loop a q i₀ at₀ i at = restBegins a at i ≡ keyBegins a q
 abbrev μ-loop : tie.MeasureT-loop
 μ-loop a q i₀ at₀ i at = length a - at
 
--- src/lib.rt:185:5
 loop-holds : tie.Need-loop-holds Inv-loop μ-loop
 loop-holds c = begins-here _ _
 
--- src/lib.rt:187:13
 returns : tie.Need-returns Inv-loop μ-loop
 returns c = begins-over _ _ _ (omega arith) (omega arith) ∙ c .before .before .loop .inv
 
--- src/lib.rt:189:12
 shared-slice-read-if2 : tie.Need-shared-slice-read-if2 Inv-loop μ-loop
 shared-slice-read-if2 c = omega arith
 
--- src/lib.rt:189:21
 array-read-if2 : tie.Need-array-read-if2 Inv-loop μ-loop
 array-read-if2 c = omega arith
 
--- src/lib.rt:190:13
 returns-2 : tie.Need-returns-2 Inv-loop μ-loop
 returns-2 c = begins-differs _ _ _ (omega arith) (omega arith) (omega arith) ∙ c .before .before .before .before .loop .inv
 
--- src/lib.rt:192:9
 add-i : tie.Need-add-i Inv-loop μ-loop
 add-i c = omega arith
 
--- src/lib.rt:193:9
 add-at : tie.Need-add-at Inv-loop μ-loop
 add-at c = omega arith
 
--- src/lib.rt:185:5
 loop-less : tie.Need-loop-less Inv-loop μ-loop
 loop-less c = omega arith
 
--- src/lib.rt:185:5
 loop-again : tie.Need-loop-again Inv-loop μ-loop
 loop-again c = begins-equal _ _ _ (omega arith) (omega arith) (omega arith) ∙ c .before .before .before .before .loop .inv
 
--- src/lib.rt:180:1
 returns-3 : tie.Need-returns-3 Inv-loop μ-loop
 returns-3 c = begins-end _ _ _ (omega arith) ∙ c .before .loop .inv
 

@@ -5,23 +5,16 @@ use Rattle.search.proofs.Laws.{end-past, end-within}
 use borrow.Author.Needs.{needs}
 use Rattle.search.proofs.next_key.Statement.{statement}
 use Rattle.search.proofs.next_key.Tie as tie
-use Rattle.search.proofs.next_key.Reads as reads
-use Rattle.search.proofs.next_key.Lts as lts
-use Rattle.search.proofs.seek.Reads as seek-reads
 
--- src/lib.rt:127:9
 seek-requires : tie.Need-seek-requires
 seek-requires c κs = search needs
 
--- src/lib.rt:127:9
 returns : tie.Need-returns
 returns c = c .seek .ensures ∙ end-past _ _ _ (omega arith)
 
--- src/lib.rt:129:5
 seek-requires-2 : tie.Need-seek-requires-2
 seek-requires-2 c κs = search needs
 
--- src/lib.rt:123:1
 returns-2 : tie.Need-returns-2
 returns-2 c = c .seek2 .ensures ∙ end-within _ _ _ (omega arith)
 

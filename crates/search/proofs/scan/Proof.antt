@@ -7,9 +7,6 @@ use Rattle.search.specs.Search.{searchFrom}
 use Rattle.search.proofs.Laws.{search-end, key-here, key-next, key-none}
 use Rattle.search.proofs.scan.Statement.{statement}
 use Rattle.search.proofs.scan.Tie as tie
-use Rattle.search.proofs.scan.Reads as reads
-use Rattle.search.proofs.scan.Lts as lts
-use Rattle.search.proofs.stands.Reads as stands-reads
 
 abbrev Inv-loop : tie.InvT-loop
 Inv-loop s end from last q₀ q = (q ≤ end) × (searchFrom s end q ≡ searchFrom s end from)
@@ -17,39 +14,30 @@ Inv-loop s end from last q₀ q = (q ≤ end) × (searchFrom s end q ≡ searchF
 abbrev μ-loop : tie.MeasureT-loop
 μ-loop s end from last q₀ q = end - q
 
--- src/lib.rt:22:9
 returns : tie.Need-returns Inv-loop μ-loop
 returns c = search-end _ _ _ (omega arith)
 
--- src/lib.rt:25:9
 returns-2 : tie.Need-returns-2 Inv-loop μ-loop
 returns-2 c = key-none _ _ _ (omega arith) (omega arith)
 
--- src/lib.rt:29:5
 loop-holds : tie.Need-loop-holds Inv-loop μ-loop
 loop-holds c = (omega arith, refl)
 
--- src/lib.rt:30:12
 stands-requires : tie.Need-stands-requires Inv-loop μ-loop
 stands-requires c κs = search needs
 
--- src/lib.rt:31:13
 returns-3 : tie.Need-returns-3 Inv-loop μ-loop
 returns-3 c = key-here _ _ _ (omega arith) (sym (c .before .stands .ensures) ∙ c .if3 .taken) ∙ c .before .before .before .loop .inv .1
 
--- src/lib.rt:33:9
 add-q : tie.Need-add-q Inv-loop μ-loop
 add-q c = search needs
 
--- src/lib.rt:29:5
 loop-less : tie.Need-loop-less Inv-loop μ-loop
 loop-less c = search needs
 
--- src/lib.rt:29:5
 loop-again : tie.Need-loop-again Inv-loop μ-loop
 loop-again c = (omega arith, key-next _ _ _ (omega arith) (sym (c .before .stands .ensures) ∙ c .if3 .left) ∙ c .before .before .before .loop .inv .1)
 
--- src/lib.rt:17:1
 returns-4 : tie.Need-returns-4 Inv-loop μ-loop
 returns-4 c = key-none _ _ _ (omega arith) (omega arith) ∙ c .before .loop .inv .1
 

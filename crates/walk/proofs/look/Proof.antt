@@ -15,11 +15,6 @@ use Rattle.walk.proofs.Laws.{rule-end, rule-no-key, rule-cut, rule-none
 use borrow.Author.Needs.{needs}
 use Rattle.walk.proofs.look.Statement.{statement}
 use Rattle.walk.proofs.look.Tie as tie
-use Rattle.walk.proofs.look.Reads as reads
-use Rattle.walk.proofs.look.Lts as lts
-use Rattle.lengths.proofs.read.Reads as read-reads
-use Rattle.search.proofs.key_at.Reads as key-at-reads
-use Rattle.walk.proofs.less.Reads as less-reads
 
 -- after the test for a key there is one
 is-key : (c : tie.Else3) → keyAt (now (c .before .before .before .before .before .args .s)) (c .before .before .before .before .before .args .p) ≡ true
@@ -35,51 +30,39 @@ is-length c = sym (c .before .before .before .before .read .ensures) ∙ c .befo
 is-long : (c : tie.After-known-told) → Taken (now (start-of c .args .s)) (start-of c .args .p + 16) (c .before .l .given .0 .0 .size)
 is-long c = taken _ _ _ (is-length c)
 
--- src/lib.rt:43:9
 returns : tie.Need-returns
 returns c = sym (rule-end _ _ _ _ (omega arith))
 
--- src/lib.rt:46:9
 returns-2 : tie.Need-returns-2
 returns-2 c = sym (rule-end _ _ _ _ (omega arith))
 
--- src/lib.rt:48:9
 key-at-requires : tie.Need-key-at-requires
 key-at-requires c κs = search needs
 
--- src/lib.rt:49:29
 add-t12 : tie.Need-add-t12
 add-t12 c = search needs
 
--- src/lib.rt:49:9
 returns-3 : tie.Need-returns-3
 returns-3 c = sym (rule-no-key _ _ _ _ (omega arith) (sym (c .before .key-at .ensures) ∙ not-true _ (c .if3 .taken)))
 
--- src/lib.rt:51:30
 add-read : tie.Need-add-read
 add-read c = search needs
 
--- src/lib.rt:51:9
 read-requires : tie.Need-read-requires
 read-requires c κs = search needs
 
--- src/lib.rt:53:9
 enum-told : tie.Need-enum-told
 enum-told c = search needs
 
--- src/lib.rt:53:9
 returns-4 : tie.Need-returns-4
 returns-4 c = sym (rule-cut _ _ _ _ (omega arith) (is-key (c .before .before .before)) (sym (c .before .before .read .ensures) ∙ c .enum-told .given .1))
 
--- src/lib.rt:55:20
 enum-known-l : tie.Need-enum-known-l
 enum-known-l c = search needs
 
--- src/lib.rt:56:29
 add-t13 : tie.Need-add-t13
 add-t13 c = search needs
 
--- src/lib.rt:56:9
 returns-5 : tie.Need-returns-5
 returns-5 c =
     sym
@@ -87,35 +70,28 @@ returns-5 c =
     (sym (c .before .before .read .ensures)
     ∙ ⊎-elim (λ e. absurd (no-cut _ (c .before .match .keys2) e)) (λ e. e) (no-is _ (c .match2 .keys2))))
 
--- src/lib.rt:58:13
 add-v : tie.Need-add-v
 add-v c = search needs
 
--- src/lib.rt:58:13
 add-v-2 : tie.Need-add-v-2
 add-v-2 c = omega (arith, is-long (c .before) .there)
 
--- src/lib.rt:60:13
 less-requires : tie.Need-less-requires
 less-requires c κs = search needs
 
--- src/lib.rt:61:9
 returns-6 : tie.Need-returns-6
 returns-6 c =
     let w = c .before .before .before in
     sym (rule-record _ _ _ _ (omega arith) (is-key (w .before .before .before .before .before)) _ (is-length w) (omega arith))
 
--- src/lib.rt:67:13
 less-requires-2 : tie.Need-less-requires-2
 less-requires-2 c κs = search needs
 
--- src/lib.rt:68:9
 returns-7 : tie.Need-returns-7
 returns-7 c =
     let w = c .before .before .before .before .before in
     sym (rule-wait _ _ _ _ (omega arith) (is-key (w .before .before .before .before .before)) _ (is-length w) (omega arith) (omega arith))
 
--- src/lib.rt:38:1
 returns-8 : tie.Need-returns-8
 returns-8 c =
     let w = c .before .before .before .before .before in

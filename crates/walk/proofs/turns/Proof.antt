@@ -12,10 +12,6 @@ use Rattle.walk.proofs.Walking.{up, walk-stop, walk-record, walk-on, wa
 use borrow.Author.Needs.{needs}
 use Rattle.walk.proofs.turns.Statement.{statement}
 use Rattle.walk.proofs.turns.Tie as tie
-use Rattle.walk.proofs.turns.Reads as reads
-use Rattle.walk.proofs.turns.Lts as lts
-use Rattle.search.proofs.next_key.Reads as next-key-reads
-use Rattle.walk.proofs.look.Reads as look-reads
 
 abbrev Inv-loop : tie.InvT-loop
 Inv-loop s end limit from p₀ p = walked limit s end p ≡ walked limit s end from
@@ -39,55 +35,44 @@ searches c = sym (c .before .before .before .before .look .ensures) ∙ c .befor
 seeks : (c : tie.After-next-key Inv-loop μ-loop) → c .next-key .result ≡ searchFrom (now (args-of c .args .s)) (args-of c .args .end) (place-of c)
 seeks c = c .next-key .ensures ∙ sym (end-within _ _ _ (args-of c .pre))
 
--- src/lib.rt:89:5
 loop-holds : tie.Need-loop-holds Inv-loop μ-loop
 loop-holds c = refl
 
--- src/lib.rt:90:13
 look-requires : tie.Need-look-requires Inv-loop μ-loop
 look-requires c κs = search needs
 
--- src/lib.rt:92:27
 enum-told : tie.Need-enum-told Inv-loop μ-loop
 enum-told c = search needs
 
--- src/lib.rt:92:27
 returns : tie.Need-returns Inv-loop μ-loop
 returns c =
     let w = c .before .before in
     sym (walk-stop _ _ _ _ (sym (w .look .ensures) ∙ c .enum-told .given .1)) ∙ w .before .loop .inv
 
--- src/lib.rt:93:26
 enum-known-t : tie.Need-enum-known-t Inv-loop μ-loop
 enum-known-t c = search needs
 
--- src/lib.rt:93:32
 returns-2 : tie.Need-returns-2 Inv-loop μ-loop
 returns-2 c =
     let w = c .before .before .before in
     sym (walk-record _ _ _ _ _ (sym (w .look .ensures) ∙ c .before .t .given .1)) ∙ w .before .loop .inv
 
--- src/lib.rt:94:26
 enum-known-t-2 : tie.Need-enum-known-t-2 Inv-loop μ-loop
 enum-known-t-2 c = search needs
 
--- src/lib.rt:95:21
 next-key-requires : tie.Need-next-key-requires Inv-loop μ-loop
 next-key-requires c κs = search needs
 
--- src/lib.rt:97:21
 returns-3 : tie.Need-returns-3 Inv-loop μ-loop
 returns-3 c =
     let n = c .before in
     sym (walk-lost _ _ _ _ _ (searches n) (omega (arith, seeks n))) ∙ loop-of n .loop .inv
 
--- src/lib.rt:89:5
 loop-less : tie.Need-loop-less Inv-loop μ-loop
 loop-less c =
     let n = c .before in
     omega (arith, up _ _ _ _ _ (searches n), seeks n)
 
--- src/lib.rt:89:5
 loop-again : tie.Need-loop-again Inv-loop μ-loop
 loop-again c =
     let n = c .before in

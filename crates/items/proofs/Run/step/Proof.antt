@@ -9,9 +9,6 @@ use Rattle.items.proofs.Laws.{item-fits}
 use borrow.Author.Needs.{needs}
 use Rattle.items.proofs.Run.step.Statement.{statement}
 use Rattle.items.proofs.Run.step.Tie as tie
-use Rattle.items.proofs.Run.step.Reads as reads
-use Rattle.items.proofs.Run.step.Lts as lts
-use Rattle.items.proofs.item_at.Reads as item-at-reads
 
 -- where there is a whole item
 abbrev start-of : tie.After-struct-known → tie.Start
@@ -20,27 +17,21 @@ start-of c = c .before .before .before .before .before .before
 is-found : (c : tie.After-struct-known) → found (item 16 (now (start-of c .args .s)) (c .before .before .w .given .0 .0)) (past (c .before .before .w .given .0 .0)) ≡ runStep (now (start-of c .args .s)) (start-of c .args .self .at)
 is-found c = rw (c .before .before .w .given .1) at (c .before .before .before .before .item-at .ensures)
 
--- src/lib.rt:72:13
 item-at-requires : tie.Need-item-at-requires
 item-at-requires c κs = search needs
 
--- src/lib.rt:73:23
 enum-known-w : tie.Need-enum-known-w
 enum-known-w c = search needs
 
--- src/lib.rt:74:13
 enum-told : tie.Need-enum-told
 enum-told c = search needs
 
--- src/lib.rt:74:13
 returns : tie.Need-returns
 returns c = rw (c .enum-told .given .1) at (c .before .before .item-at .ensures)
 
--- src/lib.rt:76:20
 add-next : tie.Need-add-next
 add-next c = omega (arith, item-fits _ _ _ _ _ _ (sym (is-found c)))
 
--- src/lib.rt:69:5
 returns-2 : tie.Need-returns-2
 returns-2 c = is-found c
 

@@ -6,54 +6,40 @@ use Rattle.walk.proofs.Answers.{arriving-refused, arriving-found, arriv
 use borrow.Author.Needs.{needs}
 use Rattle.walk.proofs.Cursor.arrive.Statement.{statement}
 use Rattle.walk.proofs.Cursor.arrive.Tie as tie
-use Rattle.walk.proofs.Cursor.arrive.Reads as reads
-use Rattle.walk.proofs.Cursor.arrive.Lts as lts
-use Rattle.search.proofs.wait_from.Reads as wait-from-reads
-use Rattle.walk.proofs.turns.Reads as turns-reads
 
--- src/lib.rt:157:13
 returns : tie.Need-returns
 returns c = sym (arriving-refused _ _ _ (omega arith))
 
--- src/lib.rt:159:13
 turns-requires : tie.Need-turns-requires
 turns-requires c κs = search needs
 
--- src/lib.rt:161:27
 enum-known-w : tie.Need-enum-known-w
 enum-known-w c = search needs
 
--- src/lib.rt:162:28
 add-next : tie.Need-add-next
 add-next c =
     let w = c .before .before .before .before in
     omega (arith, walk-fits _ _ _ _ _ (sym (w .turns .ensures) ∙ c .before .before .w .given .1))
 
--- src/lib.rt:165:29
 enum-known-w-2 : tie.Need-enum-known-w-2
 enum-known-w-2 c = search needs
 
--- src/lib.rt:166:26
 enum-known-w-3 : tie.Need-enum-known-w-3
 enum-known-w-3 c = search needs
 
--- src/lib.rt:167:21
 wait-from-requires : tie.Need-wait-from-requires
 wait-from-requires c κs = search needs
 
--- src/lib.rt:153:5
 returns-2 : tie.Need-returns-2
 returns-2 c =
     let w = c .before .before .before .before in
     sym (arriving-found _ _ _ (omega arith) _ (sym (w .turns .ensures) ∙ c .before .before .w .given .1))
 
--- src/lib.rt:153:5
 returns-3 : tie.Need-returns-3
 returns-3 c =
     let w = c .before .before .before in
     sym (arriving-stopped _ _ _ (omega arith) _ (sym (w .turns .ensures) ∙ c .before .w2 .given .1))
 
--- src/lib.rt:153:5
 returns-4 : tie.Need-returns-4
 returns-4 c =
     let w = c .before .before .before .before in

@@ -1,13 +1,9 @@
--- What it is to be bytes, and to agree on the bytes of a span. Assumes nothing.
+-- Two lists that agree on the bytes of a span: whoever reads that span alone can't tell them apart. Assumes nothing.
 use Prim.Native.Nat.{ℕ, _+_, _≤_, _<_}
 use mathlib.Core.Path.{_≡_, sym}
 use mathlib.Core.List.{List, _++_}
 use native.Mathlib.Omega.{arith}
 use lib.ListN.{length, getD, length-append, List·getD-append}
-
--- every element is a byte
-abbrev pub Bytes : List ℕ → Type 0
-Bytes s = (i : ℕ) → getD s i 0 < 256
 
 -- t has the bytes of s from one place on, n of them: what a reader of that span reads in s it reads in t
 pub record Same (s t : List ℕ) (from n : ℕ) : Type 0 where

@@ -1,0 +1,8 @@
+-- What it is to be bytes.
+use Prim.Native.Nat.{ℕ, _<_}
+use mathlib.Core.List.{List}
+use lib.ListN.{getD}
+
+-- every element is below 256 (past the end `getD` has 0)
+abbrev pub Bytes : List ℕ → Type 0
+Bytes s = (i : ℕ) → getD s i 0 < 256

@@ -1,0 +1,33 @@
+-- The lists of records: document 01, "The walk". It starts at 0; each step takes the cursor and hands back the next one.
+use Prim.Native.Nat.{ℕ}
+use mathlib.Core.List.{List}
+use lib.ListN.{length}
+use Rattle.steps.specs.Listed.{listFrom, endFrom}
+use Rattle.klv.specs.Item.{Item}
+use Rattle.walk.specs.Walk.{finishedBy, arrivingBy, stepped}
+
+-- the records of a finished walk of s with the end e, from p on, `next` being where walking goes on after a record
+abbrev pub finishedListBy : (Item → ℕ) → List ℕ → ℕ → ℕ → List Item
+finishedListBy next s e p = listFrom (finishedBy next s e) e p
+
+abbrev pub arrivingListBy : (Item → ℕ) → ℕ → List ℕ → ℕ → List Item
+arrivingListBy next limit a p = listFrom (arrivingBy next limit a) (length a) p
+
+-- the records of the finished walk, from p on
+abbrev pub finishedFrom : List ℕ → ℕ → ℕ → List Item
+finishedFrom s e p = finishedListBy stepped s e p
+
+-- the finished list of a file: e = n, from 0
+abbrev pub finished : List ℕ → List Item
+finished s = finishedFrom s (length s) 0
+
+-- the arriving list of the bytes a within a limit, from p on and from 0
+abbrev pub arrivingFrom : ℕ → List ℕ → ℕ → List Item
+arrivingFrom limit a p = arrivingListBy stepped limit a p
+
+abbrev pub arriving : ℕ → List ℕ → List Item
+arriving limit a = arrivingFrom limit a 0
+
+-- the cursor where the arriving walk of a from 0 waits
+abbrev pub waitsAt : ℕ → List ℕ → ℕ
+waitsAt limit a = endFrom (arrivingBy stepped limit a) (length a) 0
