@@ -9,7 +9,7 @@ use Rattle.klv.specs.Item.{Item}
 use Rattle.text.specs.Write.{Put}
 use Rattle.text.proofs.Putting.{_▹_, put-none}
 use Rattle.klv_text.specs.Text.{itemText}
-use Rattle.klv_text.specs.Steps.{onward, stepsAtMost, stepsFrom}
+use Rattle.klv_text.specs.Steps.{recordThen, stepsAtMost, stepsFrom}
 
 -- the loop at p: `done` is put, and the steps from p on give the rest of the whole
 pub record Going (last : Told Item → List ℕ) (step : ℕ → Told Item) (e : ℕ) (whole o₀ : List ℕ) (at : ℕ) (o : List ℕ) (r p : ℕ) : Type 0 where
@@ -25,7 +25,7 @@ module _ (last : Told Item → List ℕ) (step : ℕ → Told Item) (e : ℕ) wh
   going-start o at p = record { done = []; fuel = suc (e - p); put = put-none o at; enough = omega arith; rest = refl }
 
   at-found : (i : Item) (p q : ℕ) → step p ≡ found i q → (f : ℕ) → stepsAtMost last step (suc f) p ≡ itemText 44 i ++ (59 ∷ []) ++ stepsAtMost last step f q
-  unfolding stepsAtMost onward
+  unfolding stepsAtMost recordThen
   at-found i p q h f = rw h
 
   pub going-next : {whole o₀ : List ℕ} {at : ℕ} {o : List ℕ} {r p : ℕ} → Going last step e whole o₀ at o r p → Moves step e
@@ -55,11 +55,11 @@ module _ (last : Told Item → List ℕ) (step : ℕ → Told Item) (e : ℕ) wh
       by-fuel (suc f) l w = rw (rw (h f) at w) at (g .put ▹ b)
 
   at-nothing : (p q : ℕ) → step p ≡ nothing q → (f : ℕ) → stepsAtMost last step (suc f) p ≡ last (nothing q)
-  unfolding stepsAtMost onward
+  unfolding stepsAtMost recordThen
   at-nothing p q h f = rw h
 
   at-refused : (p n q : ℕ) → step p ≡ refused n q → (f : ℕ) → stepsAtMost last step (suc f) p ≡ last (refused n q)
-  unfolding stepsAtMost onward
+  unfolding stepsAtMost recordThen
   at-refused p n q h f = rw h
 
   pub going-over : {whole o₀ : List ℕ} {at : ℕ} {o : List ℕ} {r p : ℕ} → Going last step e whole o₀ at o r p

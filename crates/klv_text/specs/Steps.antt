@@ -15,15 +15,15 @@ unfoldable pub refusedText : ℕ → List ℕ
 refusedText n = (114 ∷ 101 ∷ 102 ∷ 117 ∷ 115 ∷ 101 ∷ 100 ∷ 32 ∷ []) ++ decimalOf n
 
 -- a record, and the text of the steps from its cursor on; a step with no record is the last
-unfoldable pub onward : (Told Item → List ℕ) → (ℕ → List ℕ) → Told Item → List ℕ
-onward last again (found i q) = itemText 44 i ++ (59 ∷ []) ++ again q
-onward last again (nothing q) = last (nothing q)
-onward last again (refused n q) = last (refused n q)
+unfoldable pub recordThen : (Told Item → List ℕ) → (ℕ → List ℕ) → Told Item → List ℕ
+recordThen last again (found i q) = itemText 44 i ++ (59 ∷ []) ++ again q
+recordThen last again (nothing q) = last (nothing q)
+recordThen last again (refused n q) = last (refused n q)
 
 -- at most `fuel` steps from p on
 unfoldable pub stepsAtMost : (Told Item → List ℕ) → (ℕ → Told Item) → ℕ → ℕ → List ℕ
 stepsAtMost last step zero p = []
-stepsAtMost last step (suc fuel) p = onward last (λ q. stepsAtMost last step fuel q) (step p)
+stepsAtMost last step (suc fuel) p = recordThen last (λ q. stepsAtMost last step fuel q) (step p)
 
 -- the steps from p on: every record starts below e and moves the cursor up, so these are enough
 unfoldable pub stepsFrom : (Told Item → List ℕ) → (ℕ → Told Item) → ℕ → ℕ → List ℕ
