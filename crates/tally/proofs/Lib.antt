@@ -1,0 +1,3 @@
+pub mod Grouped
+pub mod Steps
+pub mod Laws
