@@ -1,0 +1,91 @@
+//! The oracle's commands.
+
+use std::io::{BufRead, BufWriter, Write, stdin, stdout};
+use std::path::Path;
+use std::process::exit;
+
+use oracle::compare::{Port, report};
+use oracle::{answer, arriving, cases, record};
+
+const USAGE: &str = "\
+oracle answer                                    an answer for each line of the standard input
+oracle cases WORD COUNT SEED                     cases of a word
+oracle compare WORDS COUNT SEED --answers CMD    the port's answers beside the expected ones
+oracle record WORDS COUNT SEED FOLDER            a sample, as FOLDER/stdin and FOLDER/stdout
+oracle arriving COUNT SEED                       the arriving walk beside all short extensions";
+
+fn main() {
+    let args: Vec<String> = std::env::args().skip(1).collect();
+    let args: Vec<&str> = args.iter().map(String::as_str).collect();
+    let done = match args[..] {
+        ["answer"] => answer_lines(),
+        ["cases", word, count, seed] => print_cases(word, number(count), number(seed)),
+        ["compare", words, count, seed, "--answers", command] => compare(words, number(count), number(seed), command),
+        ["record", words, count, seed, folder] => write_sample(words, number(count), number(seed), folder),
+        ["arriving", count, seed] => arriving_beside_extensions(number(count), number(seed)),
+        _ => usage(),
+    };
+    match done {
+        Ok(true) => {}
+        Ok(false) => exit(1),
+        Err(error) => {
+            eprintln!("{error}");
+            exit(2);
+        }
+    }
+}
+
+fn usage() -> ! {
+    eprintln!("{USAGE}");
+    exit(2)
+}
+
+/// The number that an argument is.
+fn number(text: &str) -> u64 {
+    text.parse().unwrap_or_else(|_| usage())
+}
+
+fn answer_lines() -> std::io::Result<bool> {
+    let mut out = BufWriter::new(stdout().lock());
+    for line in stdin().lock().split(b'\n') {
+        writeln!(out, "{}", answer::answer(&String::from_utf8_lossy(&line?)))?;
+    }
+    out.flush().map(|()| true)
+}
+
+fn print_cases(word: &str, count: u64, seed: u64) -> std::io::Result<bool> {
+    let mut out = BufWriter::new(stdout().lock());
+    for index in 0..count {
+        writeln!(out, "{}", cases::case(word, seed, index))?;
+    }
+    out.flush().map(|()| true)
+}
+
+fn compare(words: &str, count: u64, seed: u64, command: &str) -> std::io::Result<bool> {
+    let port = Port(command.split_whitespace().map(String::from).collect());
+    let mut same = true;
+    for word in words.split(',') {
+        same &= report(&port, word, count, seed)?;
+    }
+    Ok(same)
+}
+
+fn write_sample(words: &str, count: u64, seed: u64, folder: &str) -> std::io::Result<bool> {
+    let words: Vec<&str> = words.split(',').collect();
+    let (cases, answers) = record::sample(&words, count as usize, seed);
+    std::fs::write(Path::new(folder).join("stdin"), &cases)?;
+    std::fs::write(Path::new(folder).join("stdout"), &answers)?;
+    println!("{} cases, {} bytes of cases, {} bytes of answers", cases.lines().count(), cases.len(), answers.len());
+    Ok(true)
+}
+
+fn arriving_beside_extensions(count: u64, seed: u64) -> std::io::Result<bool> {
+    match arriving::check(count, seed) {
+        Ok(extensions) => println!("arriving {count} {seed} no difference, {extensions} extensions"),
+        Err(difference) => {
+            println!("{difference}");
+            return Ok(false);
+        }
+    }
+    Ok(true)
+}
