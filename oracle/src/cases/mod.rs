@@ -1,7 +1,11 @@
 //! Cases of each word, drawn from a seed: the case at an index is the same wherever and whenever it is drawn.
 
+mod arri;
+mod canon;
 pub mod random;
 pub mod sketch;
+mod sony;
+mod tables;
 mod walk;
 
 use random::Random;
@@ -27,6 +31,20 @@ fn drawn(word: &str, random: &mut Random) -> (Vec<u64>, Vec<u8>) {
         "klvs" => (vec![], walk::klvs(random)),
         "arrive" => walk::arrive(random),
         "tally" => (vec![], walk::tally(random)),
+        "header" => (vec![], tables::header(random)),
+        "primer" => (vec![], tables::primer(random)),
+        "items" => tables::items(random),
+        "dynamic" => (vec![], arri::dynamic(random)),
+        "ofdynamic" => (vec![], arri::block(random)),
+        "alexa" => (vec![], arri::alexa(random)),
+        "arri" => arri::arri(random),
+        "anc" => (vec![], sony::anc(random)),
+        "set" => (vec![], sony::set(random)),
+        "sony" => sony::sony(random),
+        "packs" => (vec![], canon::packs(random)),
+        "package" => (vec![], canon::package(random)),
+        "sequence" => (vec![], canon::sequence(random)),
+        "canon" => canon::canon(random),
         _ => panic!("no cases of {word}"),
     }
 }
@@ -44,12 +62,9 @@ mod tests {
     use super::*;
     use crate::line::parse;
 
-    /// Words that have cases.
-    const DRAWN: [&str; 6] = ["ber", "walk", "step", "klvs", "arrive", "tally"];
-
     #[test]
     fn the_same_seed_gives_the_same_cases() {
-        for word in DRAWN {
+        for (word, _) in WORDS {
             for index in 0..200 {
                 assert_eq!(case(word, 7, index), case(word, 7, index));
             }
@@ -59,7 +74,7 @@ mod tests {
 
     #[test]
     fn every_line_is_a_case() {
-        for word in DRAWN {
+        for (word, _) in WORDS {
             for index in 0..5000 {
                 let line = case(word, 3, index);
                 assert!(parse(&line).is_some(), "{line}");

@@ -63,7 +63,7 @@ impl Sketch {
     }
 
     /// Marks the place that the bytes have reached.
-    pub fn mark(&mut self) {
+    fn mark(&mut self) {
         self.marks.push(self.bytes.len());
     }
 
@@ -99,8 +99,19 @@ impl Sketch {
         self.mark();
     }
 
+    /// An element with a label and a value.
+    pub fn put(&mut self, random: &mut Random, label: [u8; 16], value: &[u8]) {
+        self.mark();
+        self.bytes.extend(label);
+        self.mark();
+        self.length(random, value.len() as u64);
+        self.mark();
+        self.bytes.extend(value);
+        self.mark();
+    }
+
     /// A length in one of the forms that can hold it.
-    pub fn length(&mut self, random: &mut Random, number: u64) {
+    fn length(&mut self, random: &mut Random, number: u64) {
         let place = self.bytes.len();
         let form = form(random, number);
         self.bytes.extend(encoded(number, form));
@@ -292,7 +303,7 @@ fn value(random: &mut Random, size: usize) -> Vec<u8> {
 }
 
 /// A form that can hold a number: its bytes, 1 to 9.
-fn form(random: &mut Random, number: u64) -> usize {
+pub fn form(random: &mut Random, number: u64) -> usize {
     let least = 1 + (8 - number.leading_zeros() as usize / 8).max(1);
     if number < 0x80 && random.percent(60) {
         return 1;

@@ -37,6 +37,11 @@ pub fn is_alexa35(label: &[u8; 16]) -> bool {
     is_frame_data(label)
 }
 
+/// Whether a label is a frame's.
+pub fn is_frame(label: &[u8; 16]) -> bool {
+    is_frame_data(label) || same_ul(label, &PICTURE_METADATA)
+}
+
 /// Walks the frames of a buffer up to an end: each is handed to `frame_sample`, with the progress at its value.
 pub fn walk(bytes: &[u8], end: u64, progress: impl Fn(f64)) {
     let _ = ArriRaw.parse_mxf(&mut Cursor::new(bytes), end, progress, &AtomicBool::new(false), &InputOptions::default());

@@ -2,6 +2,9 @@
 
 use super::*;
 
+/// The label of a frame's element.
+pub const LABEL: [u8; 16] = ANCILLARY;
+
 /// The payload of an ST 436 element.
 pub fn payload(element: &[u8]) -> Vec<u8> {
     parse_ancillary(element)

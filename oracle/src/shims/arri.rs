@@ -6,6 +6,8 @@ pub use std::sync::atomic::AtomicBool;
 
 pub use crate::{InputOptions, util::SampleInfo};
 
+use super::heard;
+
 pub const HEADER_SIZE: usize = 4096;
 
 pub struct ArriRaw;
@@ -81,16 +83,16 @@ pub fn t_stop(linear: u32) -> f32 {
 }
 
 thread_local! {
-    static FRAMES: RefCell<Vec<(u64, Option<Frame>)>> = const { RefCell::new(Vec::new()) };
+    static FRAMES: RefCell<Vec<(u64, u64, Option<Frame>)>> = const { RefCell::new(Vec::new()) };
 }
 
 /// A sample without tags, the frame's values being kept until they are taken.
 pub fn frame_sample(frame: u64, values: Option<Frame>, _: f64, _: &InputOptions) -> SampleInfo {
-    FRAMES.with_borrow_mut(|frames| frames.push((frame, values)));
+    FRAMES.with_borrow_mut(|frames| frames.push((frame, heard::place(), values)));
     SampleInfo::default()
 }
 
-/// The frames kept since the last call.
-pub fn taken() -> Vec<(u64, Option<Frame>)> {
+/// The frames kept since the last call: their numbers, the places of their values, and what they hold.
+pub fn taken() -> Vec<(u64, u64, Option<Frame>)> {
     FRAMES.take()
 }

@@ -1,5 +1,9 @@
 //! What the published Rust answers to each word.
 
+pub mod arri;
+pub mod canon;
+mod frames;
+pub mod sony;
 pub mod walk;
 
 use crate::line::put_hex;
@@ -30,4 +34,9 @@ impl Record {
 pub fn put_number(out: &mut String, number: u64) {
     use std::fmt::Write;
     write!(out, "{number}").expect("a string takes all");
+}
+
+/// The place of a part in its whole.
+pub fn offset(whole: &[u8], part: &[u8]) -> u64 {
+    (part.as_ptr() as usize - whole.as_ptr() as usize) as u64
 }

@@ -3,7 +3,7 @@
 use std::io::{BufReader, Cursor, Read, Result, Seek, SeekFrom};
 use std::sync::atomic::AtomicBool;
 
-use super::{Record, put_number};
+use super::{Record, offset, put_number};
 use crate::mxf::{klvs, next_klv, read_ber};
 
 /// `ber`: the length that bytes begin with and how many bytes it takes.
@@ -49,7 +49,7 @@ pub fn run(out: &mut String, bytes: &[u8]) {
         let record = Record {
             place,
             label: *label,
-            value: (value.as_ptr() as usize - bytes.as_ptr() as usize) as u64,
+            value: offset(bytes, value),
             length: value.len() as u64,
         };
         record.put(out);
