@@ -1,10 +1,11 @@
-//! Demand 3 tried out: the arriving walk's list beside the finished lists of every short extension of its bytes.
+//! Demand 3 tried out: the arriving walk's list beside the published walk's finished lists of every short extension.
 
 use crate::cases::random::Random;
 use crate::cases::sketch::{START, Sketch, encoded};
 use crate::line::{Case, put_hex};
-use crate::plain::{arriving, finished};
+use crate::plain::arriving;
 use crate::words::Record;
+use crate::words::walk::records;
 
 /// The bytes that extensions are made of: those of a key start, lengths of 0 to 2, a long one and none.
 const ALPHABET: [u8; 8] = [0x06, 0x0e, 0x2b, 0x34, 0x00, 0x02, 0x81, 0x89];
@@ -58,13 +59,13 @@ fn tiny(random: &mut Random) -> Vec<u8> {
 
 /// The longest list that the finished lists of all extensions within a limit begin with, and how many there are.
 fn common_beginning(bytes: &[u8], limit: usize) -> (Vec<Record>, u64) {
-    let mut common = finished(bytes, bytes.len()).0;
+    let mut common = records(bytes, bytes.len() as u64);
     let mut walked = 1;
     let mut longer = vec![bytes.to_vec()];
     for _ in bytes.len()..limit {
         longer = longer.iter().flat_map(|bytes| ALPHABET.map(|byte| [&bytes[..], &[byte]].concat())).collect();
         for extension in &longer {
-            let list = finished(extension, extension.len()).0;
+            let list = records(extension, extension.len() as u64);
             let agreeing = common.iter().zip(&list).take_while(|(a, b)| a == b).count();
             common.truncate(agreeing);
             walked += 1;

@@ -24,7 +24,9 @@ pub struct Port(pub Vec<String>);
 impl Port {
     /// Starts the program and gives it lines as it takes them.
     fn start(&self, lines: impl Iterator<Item = String> + Send + 'static) -> std::io::Result<(Child, JoinHandle<()>)> {
-        let mut child = Command::new(&self.0[0]).args(&self.0[1..]).stdin(Stdio::piped()).stdout(Stdio::piped()).spawn()?;
+        let mut command = Command::new(&self.0[0]);
+        let child = command.args(&self.0[1..]).stdin(Stdio::piped()).stdout(Stdio::piped()).spawn();
+        let mut child = child.map_err(|error| std::io::Error::other(format!("{}: {error}", self.0[0])))?;
         let mut input = BufWriter::with_capacity(1 << 16, child.stdin.take().expect("a pipe"));
         let feeder = std::thread::spawn(move || {
             for line in lines {
@@ -79,7 +81,7 @@ pub fn compare(port: &Port, word: &str, count: u64, seed: u64) -> std::io::Resul
 
 /// The first of some lines that the port answers otherwise than expected.
 fn first_difference(port: &Port, lines: &[String]) -> Option<usize> {
-    let answers = port.answers(lines).ok()?;
+    let answers = port.answers(lines).unwrap_or_default();
     (0..lines.len()).find(|i| answers.get(*i) != Some(&expected(&lines[*i]).0))
 }
 
@@ -98,6 +100,16 @@ pub fn report(port: &Port, word: &str, count: u64, seed: u64) -> std::io::Result
             Ok(false)
         }
     }
+}
+
+/// Compares some lines, says how many or shows the smallest difference, and answers whether there was none.
+pub fn report_lines(port: &Port, lines: &[String]) -> std::io::Result<bool> {
+    let difference = first_difference(port, lines);
+    match difference {
+        None => println!("{} cases from files no difference", lines.len()),
+        Some(index) => show(port, &smallest(&lines[index], |lines| first_difference(port, lines)))?,
+    }
+    Ok(difference.is_none())
 }
 
 /// Shows a case with both answers.

@@ -62,6 +62,7 @@ pub mod answer;
 pub mod arriving;
 pub mod cases;
 pub mod compare;
+pub mod files;
 pub mod known;
 pub mod line;
 pub mod plain;

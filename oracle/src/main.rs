@@ -4,13 +4,15 @@ use std::io::{BufRead, BufWriter, Write, stdin, stdout};
 use std::path::Path;
 use std::process::exit;
 
-use oracle::compare::{Port, report};
-use oracle::{answer, arriving, cases, record};
+use oracle::compare::{Port, report, report_lines};
+use oracle::{answer, arriving, cases, files, known, record};
 
 const USAGE: &str = "\
-oracle answer                                    an answer for each line of the standard input
+oracle answer                                    the Rust's answer for each line of the standard input
+oracle expected                                  the same, with document 01's where a difference is known
 oracle cases WORD COUNT SEED                     cases of a word
 oracle compare WORDS COUNT SEED --answers CMD    the port's answers beside the expected ones
+oracle files WORDS FOLDER --answers CMD          the same over the real files of a folder
 oracle record WORDS COUNT SEED FOLDER            a sample, as FOLDER/stdin and FOLDER/stdout
 oracle arriving COUNT SEED                       the arriving walk beside all short extensions";
 
@@ -18,9 +20,11 @@ fn main() {
     let args: Vec<String> = std::env::args().skip(1).collect();
     let args: Vec<&str> = args.iter().map(String::as_str).collect();
     let done = match args[..] {
-        ["answer"] => answer_lines(),
+        ["answer"] => answer_lines(answer::answer),
+        ["expected"] => answer_lines(|line| known::expected(line).0),
         ["cases", word, count, seed] => print_cases(word, number(count), number(seed)),
         ["compare", words, count, seed, "--answers", command] => compare(words, number(count), number(seed), command),
+        ["files", words, folder, "--answers", command] => compare_files(words, folder, command),
         ["record", words, count, seed, folder] => write_sample(words, number(count), number(seed), folder),
         ["arriving", count, seed] => arriving_beside_extensions(number(count), number(seed)),
         _ => usage(),
@@ -45,10 +49,10 @@ fn number(text: &str) -> u64 {
     text.parse().unwrap_or_else(|_| usage())
 }
 
-fn answer_lines() -> std::io::Result<bool> {
+fn answer_lines(answer: impl Fn(&str) -> String) -> std::io::Result<bool> {
     let mut out = BufWriter::new(stdout().lock());
     for line in stdin().lock().split(b'\n') {
-        writeln!(out, "{}", answer::answer(&String::from_utf8_lossy(&line?)))?;
+        writeln!(out, "{}", answer(&String::from_utf8_lossy(&line?)))?;
     }
     out.flush().map(|()| true)
 }
@@ -62,12 +66,26 @@ fn print_cases(word: &str, count: u64, seed: u64) -> std::io::Result<bool> {
 }
 
 fn compare(words: &str, count: u64, seed: u64, command: &str) -> std::io::Result<bool> {
-    let port = Port(command.split_whitespace().map(String::from).collect());
+    let port = port(command);
     let mut same = true;
     for word in words.split(',') {
         same &= report(&port, word, count, seed)?;
     }
     Ok(same)
+}
+
+fn compare_files(words: &str, folder: &str, command: &str) -> std::io::Result<bool> {
+    let words: Vec<&str> = words.split(',').collect();
+    report_lines(&port(command), &files::cases(Path::new(folder), &words)?)
+}
+
+/// The port's program that a command starts.
+fn port(command: &str) -> Port {
+    let words: Vec<String> = command.split_whitespace().map(String::from).collect();
+    if words.is_empty() {
+        usage();
+    }
+    Port(words)
 }
 
 fn write_sample(words: &str, count: u64, seed: u64, folder: &str) -> std::io::Result<bool> {

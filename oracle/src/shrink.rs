@@ -38,13 +38,26 @@ fn candidates(case: &Case) -> Vec<Case> {
         }
     }
     for (i, byte) in case.bytes.iter().enumerate() {
-        if *byte != 0 {
-            let mut smaller = case.clone();
-            smaller.bytes[i] = 0;
-            all.push(smaller);
+        for less in [*byte, byte / 2, 1] {
+            if less > 0 && less <= *byte {
+                lowered(case, i, less, &mut all);
+            }
         }
     }
     all
+}
+
+/// The case with a byte lowered: as a length with as many bytes fewer after it, and alone if it becomes 0.
+fn lowered(case: &Case, at: usize, less: u8, all: &mut Vec<Case>) {
+    let mut smaller = case.clone();
+    smaller.bytes[at] -= less;
+    let after = case.bytes.len() - at - 1;
+    if less as usize <= after {
+        without(&smaller, at + 1, at + 1 + less as usize, all);
+    }
+    if smaller.bytes[at] == 0 {
+        all.push(smaller);
+    }
 }
 
 /// The case without some bytes, its numbers as they are and moved along.
@@ -72,5 +85,11 @@ mod tests {
         let has_label = |line: &String| parse(line).is_some_and(|case| case.bytes.windows(2).any(|pair| pair == [0x2b, 0x34]));
         let small = smallest("walk 9 11060e2b34aabbccddee", |lines| lines.iter().position(has_label));
         assert_eq!(small, "walk 0 2b34");
+    }
+
+    #[test]
+    fn a_length_and_its_value_are_lowered_together() {
+        let whole = |line: &String| parse(line).is_some_and(|case| case.bytes.first().is_some_and(|length| *length as usize == case.bytes.len() - 1));
+        assert_eq!(smallest("klvs 050102030405", |lines| lines.iter().position(whole)), "klvs 00");
     }
 }

@@ -148,3 +148,26 @@ fn put_encoders(out: &mut String, encoders: Option<&Value>) {
         }
     }
 }
+
+#[cfg(test)]
+mod tests {
+    use super::*;
+    use crate::cases::sketch::encoded;
+
+    /// The answer to a picture metadata element of so many zeros, and a frame after it.
+    fn answer(length: usize) -> String {
+        let label = hex_literal::hex!("060e2b34 02430101 0d010301 04010301");
+        let mut bytes = [&label[..], &encoded(length as u64, 3)].concat();
+        bytes.resize(19 + length, 0);
+        bytes.extend([&label[..], &[0]].concat());
+        let mut out = String::new();
+        frames(&mut out, &bytes, bytes.len() as u64);
+        out
+    }
+
+    #[test]
+    fn the_longest_element_is_read_and_one_byte_more_is_over_long() {
+        assert_eq!(answer(8192), "0,0,19,8192,,-;1,8211,8228,0,,-;");
+        assert_eq!(answer(8193), "0,0,19,8193,o,-;1,8212,8229,0,,-;");
+    }
+}

@@ -137,11 +137,26 @@ fn sorted(members: &Value) -> Vec<(&String, &Value)> {
 mod tests {
     use super::*;
     use crate::canon::crm_packs::named;
+    use crate::cases::sketch::encoded;
     use crate::canon::mxf_packs::reach as published;
     use crate::cases;
     use crate::line::parse;
 
-    /// Tables of names do not matter to which codes are handed over, but to the names: they are asked with their numbers.
+    /// The answer to a package set of so many zeros.
+    fn answer(length: usize) -> String {
+        let mut bytes = [&KEYS[0][..], &encoded(length as u64, 5)].concat();
+        bytes.resize(21 + length, 0);
+        let mut out = String::new();
+        frames(&mut out, &bytes, bytes.len() as u64);
+        out
+    }
+
+    #[test]
+    fn the_longest_value_is_given_and_one_byte_more_is_stepped_over() {
+        assert_eq!(answer(1_048_576), "-,0,060e2b34024301010d01030104010203,21,1048576;");
+        assert_eq!(answer(1_048_577), "");
+    }
+
     #[test]
     fn the_codes_build_differs_from_the_published_one_in_codes_alone() {
         for index in 0..20_000 {

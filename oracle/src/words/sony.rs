@@ -63,3 +63,24 @@ pub fn put_read(frames: &mut Frames, number: u64, v: u64, bytes: &[u8], payload:
     put_bytes(&mut text, payload);
     frames.put_read(number, place_of(bytes, v).0, v, bytes, text);
 }
+
+#[cfg(test)]
+mod tests {
+    use super::*;
+    use crate::cases::sketch::encoded;
+
+    /// The answer to an ST 436 element of so many zeros.
+    fn answer(length: usize) -> String {
+        let mut bytes = [&reach::LABEL[..], &encoded(length as u64, 5)].concat();
+        bytes.resize(21 + length, 0);
+        let mut out = String::new();
+        frames(&mut out, &bytes, bytes.len() as u64);
+        out
+    }
+
+    #[test]
+    fn the_longest_element_is_read_and_one_byte_more_is_over_long() {
+        assert_eq!(answer(23_723_672), "0,0,21,23723672,,-;");
+        assert_eq!(answer(23_723_673), "0,0,21,23723673,o,-;");
+    }
+}

@@ -31,6 +31,12 @@ pub fn walk(out: &mut String, bytes: &[u8], end: u64) {
     put_number(out, walker.cursor());
 }
 
+/// The records of the finished walk from 0 on.
+pub fn records(bytes: &[u8], end: u64) -> Vec<Record> {
+    let mut walker = Walker::at(bytes, 0);
+    std::iter::from_fn(|| walker.step(end)).collect()
+}
+
 /// `step`: the record of one step from a cursor, and the next cursor.
 pub fn step(out: &mut String, bytes: &[u8], end: u64, from: u64) {
     let mut walker = Walker::at(bytes, from);
@@ -140,8 +146,7 @@ mod tests {
             if end > case.bytes.len() as u64 {
                 continue;
             }
-            let mut walker = Walker::at(&case.bytes, 0);
-            let records: Vec<_> = std::iter::from_fn(|| walker.step(end)).map(|r| (r.value, r.label, r.length)).collect();
+            let records: Vec<_> = records(&case.bytes, end).into_iter().map(|r| (r.value, r.label, r.length)).collect();
             assert_eq!(records, records_by_a_large_buffer(&case.bytes, end), "{}", case.line());
         }
     }
