@@ -20,11 +20,20 @@ const PARTS: [(&str, &str, &[&str]); 4] = [
     (
         "util.rs",
         "use std::io::*;\nuse crate::tags_impl::*;\npub use crate::insert_tag;\n",
-        &["pub fn to_hex(", "#[derive(Debug, Clone, Default)]\npub struct SampleInfo ", "#[derive(Default, Debug, Clone)]\npub struct VideoMetadata ", "pub fn read_data<"],
+        &[
+            "pub fn to_hex(",
+            "#[derive(Debug, Clone, Default)]\npub struct SampleInfo ",
+            "#[derive(Default, Debug, Clone)]\npub struct VideoMetadata ",
+            "pub fn read_data<",
+        ],
     ),
     ("canon/clip_boxes.rs", "use crate::tags_impl::GroupId;\n", &["pub const CLIP_METADATA:"]),
     ("canon/cndm_tags.rs", "use crate::tags_impl::GroupId;\n", &["pub const FRAME_METADATA:", "pub fn code_name("]),
-    ("canon/crm_packs.rs", "use serde_json::{ json, Value };\nuse super::cndm_tags::code_name;\n", &["pub fn named(", "pub fn focus_position("]),
+    (
+        "canon/crm_packs.rs",
+        "use serde_json::{ json, Value };\nuse super::cndm_tags::code_name;\n",
+        &["pub fn named(", "pub fn focus_position("],
+    ),
 ];
 
 fn main() {

@@ -40,7 +40,8 @@ impl Port {
 
     /// The answers to some lines, as many as it gives.
     pub fn answers(&self, lines: &[String]) -> std::io::Result<Vec<String>> {
-        let (mut child, feeder) = self.start(lines.to_vec().into_iter())?;
+        let lines = lines.to_vec();
+        let (mut child, feeder) = self.start(lines.into_iter())?;
         let answers = BufReader::new(child.stdout.take().expect("a pipe")).split(b'\n').map(|line| line.map(text)).collect();
         feeder.join().expect("a feeder that ends");
         child.wait()?;

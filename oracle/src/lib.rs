@@ -6,41 +6,55 @@ extern crate self as pretty_hex;
 
 // ---- The published files, where build.rs stages them
 
-#[allow(dead_code)]
+#[allow(clippy::all, dead_code)]
+#[cfg_attr(rustfmt, rustfmt::skip)]
 #[path = "../target/staged/mxf.rs"]
 pub mod mxf;
 
-#[allow(dead_code)]
+#[allow(clippy::all, dead_code)]
+#[cfg_attr(rustfmt, rustfmt::skip)]
 #[path = "../target/staged/segment_table.rs"]
 pub mod segment_table;
 
-#[allow(dead_code)]
+#[allow(clippy::all, dead_code)]
+#[cfg_attr(rustfmt, rustfmt::skip)]
 #[path = "../target/staged/tags_impl.rs"]
 pub mod tags_impl;
 
+#[allow(clippy::all)]
+#[cfg_attr(rustfmt, rustfmt::skip)]
 #[path = "../target/staged/util.rs"]
 pub mod util;
 
 #[path = "../target/staged/arri"]
 pub mod arri {
     pub use crate::shims::arri::*;
-    #[allow(dead_code)]
+    #[allow(clippy::all, dead_code)]
+    #[cfg_attr(rustfmt, rustfmt::skip)]
     pub mod mxf;
 }
 
 #[path = "../target/staged/sony"]
 pub mod sony {
-    #[allow(dead_code)]
+    #[allow(clippy::all, dead_code)]
+    #[cfg_attr(rustfmt, rustfmt::skip)]
     pub mod mxf;
 }
 
 /// Canon's packs with the published `named`.
 #[path = "../target/staged/canon"]
 pub mod canon {
+    #[allow(clippy::all)]
+    #[cfg_attr(rustfmt, rustfmt::skip)]
     pub mod clip_boxes;
+    #[allow(clippy::all)]
+    #[cfg_attr(rustfmt, rustfmt::skip)]
     pub mod cndm_tags;
+    #[allow(clippy::all)]
+    #[cfg_attr(rustfmt, rustfmt::skip)]
     pub mod crm_packs;
-    #[allow(dead_code)]
+    #[allow(clippy::all, dead_code)]
+    #[cfg_attr(rustfmt, rustfmt::skip)]
     pub mod mxf_packs;
 }
 
@@ -52,7 +66,8 @@ pub mod canon_codes {
         pub use crate::canon::crm_packs::focus_position;
         pub use crate::shims::canon::named;
     }
-    #[allow(dead_code)]
+    #[allow(clippy::all, dead_code)]
+    #[cfg_attr(rustfmt, rustfmt::skip)]
     pub mod mxf_packs;
 }
 

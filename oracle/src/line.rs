@@ -99,7 +99,7 @@ fn bytes_of(text: &str) -> Option<Vec<u8>> {
     if text == "-" {
         return Some(Vec::new());
     }
-    if text.is_empty() || text.len() % 2 != 0 {
+    if text.is_empty() || !text.len().is_multiple_of(2) {
         return None;
     }
     text.as_bytes().chunks_exact(2).map(|pair| Some(digit(pair[0])? << 4 | digit(pair[1])?)).collect()
@@ -149,7 +149,23 @@ mod tests {
 
     #[test]
     fn what_is_no_case_is_none() {
-        for text in ["", "ber", "ber ", "ber 0", "ber 0A", "ber 00 ", "ber  00", "walk 00", "walk x 00", "walk -1 00", "step n n 00", "items 2 00", "walk 18446744073709551616 00", "BER 00", "ber 00\r"] {
+        for text in [
+            "",
+            "ber",
+            "ber ",
+            "ber 0",
+            "ber 0A",
+            "ber 00 ",
+            "ber  00",
+            "walk 00",
+            "walk x 00",
+            "walk -1 00",
+            "step n n 00",
+            "items 2 00",
+            "walk 18446744073709551616 00",
+            "BER 00",
+            "ber 00\r",
+        ] {
             assert_eq!(parse(text), None, "{text:?}");
         }
     }

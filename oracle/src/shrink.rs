@@ -3,7 +3,7 @@
 use crate::line::{Case, parse};
 
 /// The most candidates that are tried at once.
-const AT_ONCE: usize = 4000;
+const AT_ONCE: usize = 10_000;
 
 /// A case that differs and that no smaller one of its kind does. `first` answers the first of some lines that differs.
 pub fn smallest(line: &str, mut first: impl FnMut(&[String]) -> Option<usize>) -> String {
@@ -21,12 +21,17 @@ pub fn smallest(line: &str, mut first: impl FnMut(&[String]) -> Option<usize>) -
 /// Smaller cases, those that leave out the most first: fewer bytes, lower numbers, more zeros.
 fn candidates(case: &Case) -> Vec<Case> {
     let mut all = Vec::new();
-    let mut size = case.bytes.len();
-    while size > 0 {
-        for from in (0..case.bytes.len()).step_by(size) {
-            without(case, from, (from + size).min(case.bytes.len()), &mut all);
+    let count = case.bytes.len();
+    let halves = std::iter::successors(Some(count), |size| Some(size / 2)).take_while(|size| *size > 18);
+    for size in halves {
+        for from in (0..count).step_by(size) {
+            without(case, from, (from + size).min(count), &mut all);
         }
-        size /= 2;
+    }
+    for size in (1..=count.min(18)).rev() {
+        for from in 0..=count - size {
+            without(case, from, from + size, &mut all);
+        }
     }
     for (i, number) in case.numbers.iter().enumerate() {
         for lower in [0, number / 2, number.saturating_sub(1), case.bytes.len() as u64] {
@@ -89,7 +94,9 @@ mod tests {
 
     #[test]
     fn a_length_and_its_value_are_lowered_together() {
-        let whole = |line: &String| parse(line).is_some_and(|case| case.bytes.first().is_some_and(|length| *length as usize == case.bytes.len() - 1));
+        let whole = |line: &String| {
+            parse(line).is_some_and(|case| case.bytes.first().is_some_and(|length| *length as usize == case.bytes.len() - 1))
+        };
         assert_eq!(smallest("klvs 050102030405", |lines| lines.iter().position(whole)), "klvs 00");
     }
 }

@@ -13,20 +13,42 @@ const FIELDS: [usize; 11] = [0x50, 0x54, 0xa4, 0xa8, 0xac, 0xc0, 0xe0, 0xe4, 0xe
 
 /// Numbers of 32 bits where something changes: sentinels, signs, what an f32 rounds, infinities and what is none.
 const EDGES: [u32; 24] = [
-    0, 1, 2, 999, 1000, 1001, 0xffff_ffff, 0xffff_fffe, 0xffff_fffd, 0x7fff_ffff, 0x8000_0000, 0x8000_0001, 16_777_215, 16_777_216, 16_777_217,
-    16_777_219, 33_554_433, 0x7f80_0000, 0xff80_0000, 0x7fc0_0000, 0x7f7f_ffff, 0x0080_0000, 0x3f80_0000, 0x0000_ffff,
+    0,
+    1,
+    2,
+    999,
+    1000,
+    1001,
+    0xffff_ffff,
+    0xffff_fffe,
+    0xffff_fffd,
+    0x7fff_ffff,
+    0x8000_0000,
+    0x8000_0001,
+    16_777_215,
+    16_777_216,
+    16_777_217,
+    16_777_219,
+    33_554_433,
+    0x7f80_0000,
+    0xff80_0000,
+    0x7fc0_0000,
+    0x7f7f_ffff,
+    0x0080_0000,
+    0x3f80_0000,
+    0x0000_ffff,
 ];
 
 /// A number of 32 bits, where something changes or of any size.
 pub fn word(random: &mut Random) -> u32 {
     match random.below(4) {
         0 => *random.one(&EDGES),
-        1 => random.next() as u32,
-        2 => random.next() as u32 >> random.below(32),
+        1 => random.draw() as u32,
+        2 => random.draw() as u32 >> random.below(32),
         // Halfway between two f32, or one off it
         _ => {
             let dropped = random.between(1, 8);
-            let kept = (random.next() as u32 >> 9 | 1 << 23) >> random.below(2);
+            let kept = (random.draw() as u32 >> 9 | 1 << 23) >> random.below(2);
             (kept << dropped | 1 << (dropped - 1)).wrapping_add(random.below(3) as u32).wrapping_sub(1)
         }
     }
@@ -84,7 +106,7 @@ fn picture_metadata(random: &mut Random, count: usize, full: bool) -> Vec<u8> {
             true => lens_run(random, full),
             false => small_bytes(random, 9),
         };
-        let said = if random.percent(4) { random.next() as u16 } else { value.len() as u16 };
+        let said = if random.percent(4) { random.draw() as u16 } else { value.len() as u16 };
         bytes.push(if run && random.percent(92) { 0x88 } else { random.byte() });
         bytes.extend(said.to_be_bytes());
         bytes.extend(value);
@@ -168,8 +190,25 @@ fn alexa_sets(random: &mut Random, count: usize) -> Vec<u8> {
 /// One of ARRI's items, its value of the right size mostly.
 fn alexa_item(random: &mut Random) -> Vec<u8> {
     const ITEMS: [(u8, u8); 19] = [
-        (0x0c, 3), (0x0c, 4), (0x0d, 1), (0x0d, 2), (0x0d, 3), (0x0d, 5), (0x0d, 6), (0x0d, 7), (0x0d, 8), (0x0d, 9), (0x0d, 10), (0x0d, 11),
-        (0x0d, 12), (0x0e, 1), (0x0e, 3), (0x0e, 5), (0x0e, 6), (0x0e, 7), (0x0e, 8),
+        (0x0c, 3),
+        (0x0c, 4),
+        (0x0d, 1),
+        (0x0d, 2),
+        (0x0d, 3),
+        (0x0d, 5),
+        (0x0d, 6),
+        (0x0d, 7),
+        (0x0d, 8),
+        (0x0d, 9),
+        (0x0d, 10),
+        (0x0d, 11),
+        (0x0d, 12),
+        (0x0e, 1),
+        (0x0e, 3),
+        (0x0e, 5),
+        (0x0e, 6),
+        (0x0e, 7),
+        (0x0e, 8),
     ];
     let (set, item) = if random.percent(95) { *random.one(&ITEMS) } else { (random.between(0x0b, 0x0f) as u8, random.below(16) as u8) };
     let mut label = hex_literal::hex!("060e2b34 0101010e 0e170102 00000000");
@@ -237,6 +276,14 @@ fn frame(random: &mut Random, sketch: &mut Sketch, large: bool) {
     };
     if large {
         value.resize(random.between(8190, 8195), 0);
+        hide_frame(random, &mut value);
     }
     sketch.put(random, label, &value);
+}
+
+/// Puts an empty frame into a large value, which a walk that steps over the value does not meet.
+fn hide_frame(random: &mut Random, value: &mut [u8]) {
+    let place = value.len() - random.between(17, 4000);
+    value[place..place + 16].copy_from_slice(&FRAME_DATA);
+    value[place + 16] = 0;
 }

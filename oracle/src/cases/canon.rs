@@ -25,7 +25,7 @@ fn camera_metadata(random: &mut Random, bound: usize) -> Vec<u8> {
     let again = random.percent(40).then(|| random.below(22) as u8);
     let mut bytes = vec![count as u8];
     for _ in 0..packs {
-        let id = again.unwrap_or_else(|| if random.percent(96) { random.below(22) as u8 } else { random.byte() });
+        let id = again.unwrap_or_else(|| id(random));
         bytes.push(id);
         bytes.extend(pack(random));
     }
@@ -36,16 +36,25 @@ fn camera_metadata(random: &mut Random, bound: usize) -> Vec<u8> {
     bytes
 }
 
+/// A pack's number, of one with several values more often.
+fn id(random: &mut Random) -> u8 {
+    match random.below(20) {
+        0 => random.byte(),
+        1..7 => *random.one(&[2, 5, 7, 7, 10, 11, 11]),
+        _ => random.below(22) as u8,
+    }
+}
+
 /// The four bytes of a pack, where something changes.
 fn pack(random: &mut Random) -> [u8; 4] {
-    match random.below(4) {
-        0 => (random.next() as u32).to_be_bytes(),
-        1 => {
+    match random.below(5) {
+        0..2 => (random.draw() as u32).to_be_bytes(),
+        2 => {
             let half = |random: &mut Random| *random.one(&[0u16, 1, 28, 0x7fff, 0x8000, 0x8001, 0x0fff, 0xfff0, 65533, 65534, 65535]);
             let (a, b) = (half(random).to_be_bytes(), half(random).to_be_bytes());
             [a[0], a[1], b[0], b[1]]
         }
-        2 => (*random.one(&[0u32, 1, 0xffff_ffff, 0xffff_fffe, 0xffff_fffd, 0x7fff_ffff, 0x8000_0000])).to_be_bytes(),
+        3 => (*random.one(&[0u32, 1, 0xffff_ffff, 0xffff_fffe, 0xffff_fffd, 0x7fff_ffff, 0x8000_0000])).to_be_bytes(),
         _ => std::array::from_fn(|_| *random.one(&[0u8, 1, 3, 0x1e, 0x1f, 0x20, 0x40, 0x7f, 0x80, 0xc0, 0xe0, 0xf0, 0xff])),
     }
 }
@@ -109,7 +118,7 @@ fn sequence_info(random: &mut Random) -> Vec<u8> {
             _ if tag == 0x3c0a => random.bytes(16),
             _ => random.edge().to_be_bytes().to_vec(),
         };
-        let said = if random.percent(3) { random.next() as u16 } else { value.len() as u16 };
+        let said = if random.percent(3) { random.draw() as u16 } else { value.len() as u16 };
         bytes.extend(tag.to_be_bytes());
         bytes.extend(said.to_be_bytes());
         bytes.extend(value);

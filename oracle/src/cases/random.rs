@@ -8,12 +8,12 @@ impl Random {
     pub fn of(word: &str, seed: u64, index: u64) -> Self {
         let name = word.bytes().fold(0xcbf2_9ce4_8422_2325u64, |hash, byte| (hash ^ byte as u64).wrapping_mul(0x0100_0000_01b3));
         let mut start = Self(name ^ seed.wrapping_mul(0x9e37_79b9_7f4a_7c15));
-        let mixed = start.next();
+        let mixed = start.draw();
         Self(mixed ^ index.wrapping_mul(0xd1b5_4a32_d192_ed03))
     }
 
     /// The next number, of 64 bits.
-    pub fn next(&mut self) -> u64 {
+    pub fn draw(&mut self) -> u64 {
         self.0 = self.0.wrapping_add(0x9e37_79b9_7f4a_7c15);
         let a = (self.0 ^ self.0 >> 30).wrapping_mul(0xbf58_476d_1ce4_e5b9);
         let b = (a ^ a >> 27).wrapping_mul(0x94d0_49bb_1331_11eb);
@@ -22,7 +22,7 @@ impl Random {
 
     /// A number below a bound, 0 if the bound is 0.
     pub fn below(&mut self, bound: usize) -> usize {
-        (self.next() as u128 * bound as u128 >> 64) as usize
+        ((self.draw() as u128 * bound as u128) >> 64) as usize
     }
 
     /// A number from one to another, both possible.
@@ -42,7 +42,7 @@ impl Random {
 
     /// A byte.
     pub fn byte(&mut self) -> u8 {
-        self.next() as u8
+        self.draw() as u8
     }
 
     /// So many bytes.
@@ -57,7 +57,7 @@ impl Random {
             0 => near,
             1 => u64::MAX - near,
             2 => (1u64 << self.below(64)).wrapping_add(near).wrapping_sub(1),
-            _ => self.next() >> self.below(64),
+            _ => self.draw() >> self.below(64),
         }
     }
 }
@@ -68,11 +68,11 @@ mod tests {
 
     #[test]
     fn the_same_seed_gives_the_same_numbers() {
-        let draw = |seed, index| Random::of("walk", seed, index).next();
+        let draw = |seed, index| Random::of("walk", seed, index).draw();
         assert_eq!(draw(1, 0), draw(1, 0));
         assert_ne!(draw(1, 0), draw(1, 1));
         assert_ne!(draw(1, 0), draw(2, 0));
-        assert_ne!(draw(1, 0), Random::of("klvs", 1, 0).next());
+        assert_ne!(draw(1, 0), Random::of("klvs", 1, 0).draw());
     }
 
     #[test]

@@ -56,8 +56,24 @@ fn line(random: &mut Random) -> Vec<u8> {
 /// Items of a descriptor, of the right length mostly, some coming again.
 pub fn set(random: &mut Random) -> Vec<u8> {
     const ITEMS: [(u16, usize); 18] = [
-        (0x0202, 8), (0x1502, 2), (0x1501, 8), (0x1503, 1), (0x3001, 8), (0x3002, 8), (0x3202, 4), (0x3203, 4), (0x3204, 4), (0x3205, 4),
-        (0x3206, 4), (0x3207, 4), (0x3208, 4), (0x3209, 4), (0x320a, 4), (0x320b, 4), (0x320e, 8), (0x3306, 4),
+        (0x0202, 8),
+        (0x1502, 2),
+        (0x1501, 8),
+        (0x1503, 1),
+        (0x3001, 8),
+        (0x3002, 8),
+        (0x3202, 4),
+        (0x3203, 4),
+        (0x3204, 4),
+        (0x3205, 4),
+        (0x3206, 4),
+        (0x3207, 4),
+        (0x3208, 4),
+        (0x3209, 4),
+        (0x320a, 4),
+        (0x320b, 4),
+        (0x320e, 8),
+        (0x3306, 4),
     ];
     if random.percent(3) {
         let size = random.below(150);
@@ -72,7 +88,7 @@ pub fn set(random: &mut Random) -> Vec<u8> {
             Some(few) => *random.one(few),
             None => *random.one(&ITEMS),
         };
-        let tag = if random.percent(5) { random.next() as u16 } else { tag };
+        let tag = if random.percent(5) { random.draw() as u16 } else { tag };
         let size = if random.percent(15) { random.below(12) } else { size };
         let said = if random.percent(2) { size + 1 } else { size };
         let value: Vec<u8> = [part(random), part(random), part(random)].concat();

@@ -84,7 +84,7 @@ pub fn items(random: &mut Random) -> (Vec<u64>, Vec<u8>) {
 fn local_items(random: &mut Random, count: usize, ber: bool) -> Vec<u8> {
     let mut bytes = Vec::new();
     for _ in 0..count {
-        let tag = if random.percent(50) { random.below(3) as u16 } else { random.next() as u16 };
+        let tag = if random.percent(50) { random.below(3) as u16 } else { random.draw() as u16 };
         let size = if random.percent(30) { 0 } else { random.below(14) };
         let said = match random.below(20) {
             0 => random.edge(),

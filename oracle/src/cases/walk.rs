@@ -1,7 +1,7 @@
 //! Cases of `ber`, `walk`, `step`, `klvs`, `arrive` and `tally`.
 
 use super::random::Random;
-use super::sketch::{LABELS, Sketch, START, encoded, label};
+use super::sketch::{LABELS, START, Sketch, encoded, label};
 
 /// A first length byte of every kind with its bytes, some missing, some left over.
 pub fn ber(random: &mut Random) -> Vec<u8> {

@@ -137,9 +137,9 @@ fn sorted(members: &Value) -> Vec<(&String, &Value)> {
 mod tests {
     use super::*;
     use crate::canon::crm_packs::named;
-    use crate::cases::sketch::encoded;
     use crate::canon::mxf_packs::reach as published;
     use crate::cases;
+    use crate::cases::sketch::encoded;
     use crate::line::parse;
 
     /// The answer to a package set of so many zeros.

@@ -39,10 +39,18 @@ pub fn frames(out: &mut String, bytes: &[u8], end: u64) {
     heard::listen();
     let read = RefCell::new(Vec::new());
     let size = walked(bytes, end);
-    let samples = parse(&mut Cursor::new(bytes), end, |share| heard::reached(share, size), Default::default(), None, &InputOptions::default(), |payload, _, _| {
-        read.borrow_mut().push((heard::place(), payload.to_vec()));
-        Ok(())
-    });
+    let samples = parse(
+        &mut Cursor::new(bytes),
+        end,
+        |share| heard::reached(share, size),
+        Default::default(),
+        None,
+        &InputOptions::default(),
+        |payload, _, _| {
+            read.borrow_mut().push((heard::place(), payload.to_vec()));
+            Ok(())
+        },
+    );
     let numbers = samples.expect("memory is read without error").into_iter().map(|sample| sample.sample_index);
     let mut frames = Frames::default();
     for (number, (v, payload)) in numbers.zip(read.into_inner()) {

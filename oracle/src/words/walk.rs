@@ -52,12 +52,7 @@ pub fn step(out: &mut String, bytes: &[u8], end: u64, from: u64) {
 pub fn run(out: &mut String, bytes: &[u8]) {
     let mut place = 0;
     for (label, value) in klvs(bytes) {
-        let record = Record {
-            place,
-            label: *label,
-            value: offset(bytes, value),
-            length: value.len() as u64,
-        };
+        let record = Record { place, label: *label, value: offset(bytes, value), length: value.len() as u64 };
         record.put(out);
         out.push(';');
         place = record.value + record.length;
