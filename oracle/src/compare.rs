@@ -1,7 +1,7 @@
 //! The port's answers beside the expected ones, over cases drawn from a seed.
 
 use std::collections::BTreeMap;
-use std::io::{BufRead, BufReader, BufWriter, Write};
+use std::io::{BufRead, BufReader, BufWriter, Error, Result, Write};
 use std::process::{Child, Command, Stdio};
 use std::thread::JoinHandle;
 use std::time::Instant;
@@ -23,10 +23,10 @@ pub struct Port(pub Vec<String>);
 
 impl Port {
     /// Starts the program and gives it lines as it takes them.
-    fn start(&self, lines: impl Iterator<Item = String> + Send + 'static) -> std::io::Result<(Child, JoinHandle<()>)> {
+    fn start(&self, lines: impl Iterator<Item = String> + Send + 'static) -> Result<(Child, JoinHandle<()>)> {
         let mut command = Command::new(&self.0[0]);
         let child = command.args(&self.0[1..]).stdin(Stdio::piped()).stdout(Stdio::piped()).spawn();
-        let mut child = child.map_err(|error| std::io::Error::other(format!("{}: {error}", self.0[0])))?;
+        let mut child = child.map_err(|error| Error::other(format!("{}: {error}", self.0[0])))?;
         let mut input = BufWriter::with_capacity(1 << 16, child.stdin.take().expect("a pipe"));
         let feeder = std::thread::spawn(move || {
             for line in lines {
@@ -39,7 +39,7 @@ impl Port {
     }
 
     /// The answers to some lines, as many as it gives.
-    pub fn answers(&self, lines: &[String]) -> std::io::Result<Vec<String>> {
+    pub fn answers(&self, lines: &[String]) -> Result<Vec<String>> {
         let lines = lines.to_vec();
         let (mut child, feeder) = self.start(lines.into_iter())?;
         let answers = BufReader::new(child.stdout.take().expect("a pipe")).split(b'\n').map(|line| line.map(text)).collect();
@@ -55,7 +55,7 @@ fn text(line: Vec<u8>) -> String {
 }
 
 /// Compares so many cases of a word at a seed.
-pub fn compare(port: &Port, word: &str, count: u64, seed: u64) -> std::io::Result<Outcome> {
+pub fn compare(port: &Port, word: &str, count: u64, seed: u64) -> Result<Outcome> {
     let name = word.to_string();
     let (mut child, feeder) = port.start((0..count).map(move |index| case(&name, seed, index)))?;
     let mut answers = BufReader::with_capacity(1 << 16, child.stdout.take().expect("a pipe")).split(b'\n');
@@ -75,8 +75,14 @@ pub fn compare(port: &Port, word: &str, count: u64, seed: u64) -> std::io::Resul
             *known.entry(difference.name).or_default() += 1;
         }
     }
+    if answers.next().is_some() {
+        return Err(Error::other("the port gave more answers than there were cases"));
+    }
     feeder.join().expect("a feeder that ends");
-    child.wait()?;
+    let status = child.wait()?;
+    if !status.success() {
+        return Err(Error::other(format!("the port answered all cases and ended with {status}")));
+    }
     Ok(Outcome::Same(known))
 }
 
@@ -87,7 +93,7 @@ fn first_difference(port: &Port, lines: &[String]) -> Option<usize> {
 }
 
 /// Compares, says what was found in one line or shows the smallest difference, and answers whether there was none.
-pub fn report(port: &Port, word: &str, count: u64, seed: u64) -> std::io::Result<bool> {
+pub fn report(port: &Port, word: &str, count: u64, seed: u64) -> Result<bool> {
     let started = Instant::now();
     match compare(port, word, count, seed)? {
         Outcome::Same(known) => {
@@ -104,7 +110,7 @@ pub fn report(port: &Port, word: &str, count: u64, seed: u64) -> std::io::Result
 }
 
 /// Compares some lines, says how many or shows the smallest difference, and answers whether there was none.
-pub fn report_lines(port: &Port, lines: &[String]) -> std::io::Result<bool> {
+pub fn report_lines(port: &Port, lines: &[String]) -> Result<bool> {
     let difference = first_difference(port, lines);
     match difference {
         None => println!("{} cases from files no difference", lines.len()),
@@ -114,7 +120,7 @@ pub fn report_lines(port: &Port, lines: &[String]) -> std::io::Result<bool> {
 }
 
 /// Shows a case with both answers.
-fn show(port: &Port, line: &str) -> std::io::Result<()> {
+fn show(port: &Port, line: &str) -> Result<()> {
     let answer = port.answers(&[line.to_string()])?.into_iter().next();
     let (right, difference) = expected(line);
     println!("case: {line}");
@@ -145,6 +151,13 @@ mod tests {
         let port = constant("0 1");
         let small = smallest("ber 8205060708", |lines| first_difference(&port, lines));
         assert_eq!(small, "ber -");
+    }
+
+    #[test]
+    fn a_port_that_answers_too_much_is_found_out() {
+        let port = Port(vec!["echo".into(), "?".into()]);
+        assert!(compare(&port, "klvs", 0, 1).is_err());
+        assert!(compare(&Port(vec!["false".into()]), "klvs", 0, 1).is_err());
     }
 
     #[test]

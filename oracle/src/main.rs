@@ -1,16 +1,17 @@
 //! The oracle's commands.
 
-use std::io::{BufRead, BufWriter, Write, stdin, stdout};
+use std::io::{BufRead, BufWriter, Error, Result, Write, stdin, stdout};
 use std::path::Path;
 use std::process::exit;
 
 use oracle::compare::{Port, report, report_lines};
+use oracle::line::WORDS;
 use oracle::{answer, arriving, cases, files, known, record};
 
 const USAGE: &str = "\
 oracle answer                                    the Rust's answer for each line of the standard input
 oracle expected                                  the same, with document 01's where a difference is known
-oracle cases WORD COUNT SEED                     cases of a word
+oracle cases WORDS COUNT SEED                    cases of each word
 oracle compare WORDS COUNT SEED --answers CMD    the port's answers beside the expected ones
 oracle files WORDS FOLDER --answers CMD          the same over the real files of a folder
 oracle record WORDS COUNT SEED FOLDER            a sample, as FOLDER/stdin and FOLDER/stdout
@@ -22,7 +23,7 @@ fn main() {
     let done = match args[..] {
         ["answer"] => answer_lines(answer::answer),
         ["expected"] => answer_lines(|line| known::expected(line).0),
-        ["cases", word, count, seed] => print_cases(word, number(count), number(seed)),
+        ["cases", words, count, seed] => print_cases(words, number(count), number(seed)),
         ["compare", words, count, seed, "--answers", command] => compare(words, number(count), number(seed), command),
         ["files", words, folder, "--answers", command] => compare_files(words, folder, command),
         ["record", words, count, seed, folder] => write_sample(words, number(count), number(seed), folder),
@@ -49,7 +50,7 @@ fn number(text: &str) -> u64 {
     text.parse().unwrap_or_else(|_| usage())
 }
 
-fn answer_lines(answer: impl Fn(&str) -> String) -> std::io::Result<bool> {
+fn answer_lines(answer: impl Fn(&str) -> String) -> Result<bool> {
     let mut out = BufWriter::new(stdout().lock());
     for line in stdin().lock().split(b'\n') {
         writeln!(out, "{}", answer(&String::from_utf8_lossy(&line?)))?;
@@ -57,26 +58,34 @@ fn answer_lines(answer: impl Fn(&str) -> String) -> std::io::Result<bool> {
     out.flush().map(|()| true)
 }
 
-fn print_cases(word: &str, count: u64, seed: u64) -> std::io::Result<bool> {
+fn print_cases(words: &str, count: u64, seed: u64) -> Result<bool> {
     let mut out = BufWriter::new(stdout().lock());
-    for index in 0..count {
-        writeln!(out, "{}", cases::case(word, seed, index))?;
+    for word in words_of(words)? {
+        for index in 0..count {
+            writeln!(out, "{}", cases::case(word, seed, index))?;
+        }
     }
     out.flush().map(|()| true)
 }
 
-fn compare(words: &str, count: u64, seed: u64, command: &str) -> std::io::Result<bool> {
+fn compare(words: &str, count: u64, seed: u64, command: &str) -> Result<bool> {
     let port = port(command);
     let mut same = true;
-    for word in words.split(',') {
+    for word in words_of(words)? {
         same &= report(&port, word, count, seed)?;
     }
     Ok(same)
 }
 
-fn compare_files(words: &str, folder: &str, command: &str) -> std::io::Result<bool> {
-    let words: Vec<&str> = words.split(',').collect();
-    report_lines(&port(command), &files::cases(Path::new(folder), &words)?)
+fn compare_files(words: &str, folder: &str, command: &str) -> Result<bool> {
+    report_lines(&port(command), &files::cases(Path::new(folder), &words_of(words)?)?)
+}
+
+/// The words that a list names, with commas or spaces between them.
+fn words_of(list: &str) -> Result<Vec<&'static str>> {
+    let word = |name: &str| WORDS.iter().find(|(word, _)| *word == name).map(|(word, _)| *word);
+    let words = list.split([',', ' ']).map(|name| word(name).ok_or_else(|| Error::other(format!("{name} is no word"))));
+    words.collect()
 }
 
 /// The port's program that a command starts.
@@ -88,16 +97,15 @@ fn port(command: &str) -> Port {
     Port(words)
 }
 
-fn write_sample(words: &str, count: u64, seed: u64, folder: &str) -> std::io::Result<bool> {
-    let words: Vec<&str> = words.split(',').collect();
-    let (cases, answers) = record::sample(&words, count as usize, seed);
+fn write_sample(words: &str, count: u64, seed: u64, folder: &str) -> Result<bool> {
+    let (cases, answers) = record::sample(&words_of(words)?, count as usize, seed);
     std::fs::write(Path::new(folder).join("stdin"), &cases)?;
     std::fs::write(Path::new(folder).join("stdout"), &answers)?;
     println!("{} cases, {} bytes of cases, {} bytes of answers", cases.lines().count(), cases.len(), answers.len());
     Ok(true)
 }
 
-fn arriving_beside_extensions(count: u64, seed: u64) -> std::io::Result<bool> {
+fn arriving_beside_extensions(count: u64, seed: u64) -> Result<bool> {
     match arriving::check(count, seed) {
         Ok(extensions) => println!("arriving {count} {seed} no difference, {extensions} extensions"),
         Err(difference) => {
