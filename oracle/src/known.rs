@@ -1,4 +1,4 @@
-//! Where the published Rust answers otherwise than document 01 on purpose of 01: each with its rule, and nothing silently.
+//! Where document 01 has another answer than the published Rust: each with its rule and its smallest case, and none silently.
 
 use crate::answer;
 use crate::line::{Case, parse};
