@@ -43,7 +43,7 @@ module _ {A : Type 0} (wanted : A → Bool) (step : ℕ → Told A) (e : ℕ) (m
     unfolding onWanted
     wanted-nothing q x = wanted-step p ∙ rw x
 
-    wanted-refused : (n q : ℕ) → step p ≡ refused n q → wantedFrom wanted step e p ≡ refused n q
+    pub wanted-refused : (n q : ℕ) → step p ≡ refused n q → wantedFrom wanted step e p ≡ refused n q
     unfolding onWanted
     wanted-refused n q x = wanted-step p ∙ rw x
 
@@ -70,6 +70,24 @@ module _ {A : Type 0} (wanted : A → Bool) (step : ℕ → Told A) (e : ℕ) (m
 
   pub wanted-moves : Moves (wantedFrom wanted step e) e
   wanted-moves p a q x = moves-within (suc (e - p)) p (omega arith) a q x
+
+  -- where nothing is refused, nothing is
+  unrefused-within : ((p n q : ℕ) → step p ≡ refused n q → ⊥) → (k p n q : ℕ) → e - p < k → wantedFrom wanted step e p ≡ refused n q → ⊥
+  unrefused-within none zero p n q h x = omega arith
+  unrefused-within none (suc k) p n q h x = go (step p) refl (unrefused-within none k)
+    where
+      by-want : (a : A) (r : ℕ) (w : Bool) → step p ≡ found a r → wanted a ≡ w
+          → ((m i j : ℕ) → e - m < k → wantedFrom wanted step e m ≡ refused i j → ⊥) → ⊥
+      by-want a r true s w ih = let y = wanted-found p a r s w in let z : _≡_ {A = ℕ} 0 1 = cc in omega arith
+      by-want a r false s w ih = let m = moves p a r s in ih r n q (omega arith) (sym (wanted-passed p a r s w) ∙ x)
+
+      go : (t : Told A) → step p ≡ t → ((m i j : ℕ) → e - m < k → wantedFrom wanted step e m ≡ refused i j → ⊥) → ⊥
+      go (found a r) s ih = by-want a r (wanted a) s refl ih
+      go (nothing r) s ih = let y = wanted-nothing p r s in let z : _≡_ {A = ℕ} 0 1 = cc in omega arith
+      go (refused i r) s ih = none p i r s
+
+  pub wanted-unrefused : ((p n q : ℕ) → step p ≡ refused n q → ⊥) → (p n q : ℕ) → wantedFrom wanted step e p ≡ refused n q → ⊥
+  wanted-unrefused none p n q = unrefused-within none (suc (e - p)) p n q (omega arith)
 
   -- the list of wanted items is the wanted part of the list
   kept-within : (k p : ℕ) → e - p < k → listFrom (wantedFrom wanted step e) e p ≡ kept wanted (listFrom step e p)
