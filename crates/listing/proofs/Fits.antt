@@ -18,6 +18,7 @@ use Rattle.tally.proofs.Steps.{Next, next, never-refused}
 use Rattle.text.specs.Write.{decimalOf, hexOf, Put}
 use Rattle.text.proofs.Sizes.{length-decimal, length-hex, put-whole}
 use Rattle.klv_text.specs.Text.{itemText}
+use Rattle.klv_text.specs.Groups.{eachGroup}
 use Rattle.listing.specs.Listing.{recordLines, countLine, groupLine, groupLines, otherLine, tallyLines, listingOf}
 
 label-length : (s : List ℕ) (p : ℕ) → length (hexOf (labelAt s p)) ≤ 32
@@ -51,7 +52,7 @@ unfolding groupLine
 group-length s p n = simp length-append (omega (arith, label-length s p, length-decimal n))
 
 groups-length : (s f c : List ℕ) → length (groupLines s f c) ≤ 60 * length f
-unfolding groupLines
+unfolding eachGroup
 groups-length s [] c = omega arith
 groups-length s (p ∷ f) [] = omega arith
 groups-length s (p ∷ f) (n ∷ c) = rw (length-append (groupLine s p n) (groupLines s f c)) (omega (arith, group-length s p n, groups-length s f c))

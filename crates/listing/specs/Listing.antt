@@ -10,6 +10,7 @@ use Rattle.records.specs.Records.{finished}
 use Rattle.tally.specs.Groups.{Groups, groupsOf}
 use Rattle.text.specs.Write.{decimalOf, hexOf}
 use Rattle.klv_text.specs.Text.{itemText}
+use Rattle.klv_text.specs.Groups.{eachGroup}
 
 -- a line for each record
 unfoldable pub recordLines : List Item → List ℕ
@@ -24,11 +25,9 @@ countLine n = (114 ∷ 101 ∷ 99 ∷ 111 ∷ 114 ∷ 100 ∷ 115 ∷ 32 ∷ [])
 unfoldable pub groupLine : List ℕ → ℕ → ℕ → List ℕ
 groupLine s first n = (108 ∷ 97 ∷ 98 ∷ 101 ∷ 108 ∷ 32 ∷ []) ++ hexOf (labelAt s first) ++ (32 ∷ []) ++ decimalOf n ++ (10 ∷ [])
 
--- a line for each group, by the places of their first records and their counts
-unfoldable pub groupLines : List ℕ → List ℕ → List ℕ → List ℕ
-groupLines s [] counts = []
-groupLines s (p ∷ firsts) [] = []
-groupLines s (p ∷ firsts) (n ∷ counts) = groupLine s p n ++ groupLines s firsts counts
+-- a line for each group
+abbrev pub groupLines : List ℕ → List ℕ → List ℕ → List ℕ
+groupLines s firsts counts = eachGroup (groupLine s) firsts counts
 
 -- `other N`, only when N is above 0
 unfoldable pub otherLine : ℕ → List ℕ

@@ -3,13 +3,14 @@ use native.Mathlib.Omega.{arith}
 use Prim.Native.Nat.{_-_}
 use lib.ListN.{length}
 use Rattle.text.proofs.Putting.{length-put}
-use Rattle.listing.proofs.Laws.{Grouping, grouping-start, grouping-next, grouping-over}
+use Rattle.listing.specs.Listing.{groupLine}
+use Rattle.klv_text.proofs.Groups.{Grouping, grouping-start, grouping-next, grouping-over}
 use borrow.Author.Needs.{needs}
 use Rattle.listing.proofs.put_groups.Statement.{statement}
 use Rattle.listing.proofs.put_groups.Tie as tie
 
 abbrev Inv-loop : tie.InvT-loop
-Inv-loop out₀ at s firsts counts p₀ j₀ out p j = Grouping s firsts counts out₀ at out p j
+Inv-loop out₀ at s firsts counts p₀ j₀ out p j = Grouping (groupLine s) firsts counts out₀ at out p j
 
 abbrev μ-loop : tie.MeasureT-loop
 μ-loop out₀ at s firsts counts p₀ j₀ out p j = length firsts - j

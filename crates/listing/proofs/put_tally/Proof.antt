@@ -4,7 +4,7 @@ use denote.Ref.{now}
 use Rattle.tally.specs.declared.Tally.{Tally}
 use Rattle.text.proofs.Putting.{_▹_}
 use Rattle.listing.specs.Listing.{tallyLines}
-use Rattle.listing.proofs.Laws.{Lent, lent}
+use Rattle.tally.proofs.Lent.{Lent, lent}
 use borrow.Author.Needs.{needs}
 use Rattle.listing.proofs.put_tally.Statement.{statement}
 use Rattle.listing.proofs.put_tally.Tie as tie
