@@ -15,6 +15,8 @@ pub const STEP: u8 = 4;
 
 pub const ARRIVE: u8 = 5;
 
+pub const TALLY: u8 = 6;
+
 // A case: its word's number, its numbers, and how many bytes it has.
 pub struct Case {
     pub word: u8,
@@ -45,6 +47,9 @@ fn word_of(w: &[u8]) -> u8 {
     }
     if same(w, b"arrive") {
         return ARRIVE;
+    }
+    if same(w, b"tally") {
+        return TALLY;
     }
     0
 }

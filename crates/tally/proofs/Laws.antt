@@ -163,6 +163,7 @@ going-next {s} {f₀} {c₀} {f} {c} {t} {at} g i q e x {u} {f₁} {c₁} a lf l
 -- the end: what stands in the lent lists is the groups, in front of what was there
 
 lent : (n : ℕ) (f f₀ : List ℕ) → n ≤ length f → drop n f ≡ drop n f₀ → f ≡ front (take n f) f₀
+unfolding front
 lent n f f₀ h e = rw (length-take-le n f h, ← e) (sym (take-append-drop n f))
 
 pub going-over : {s f₀ c₀ f c : List ℕ} {t : Tally} {at : ℕ} → Going s f₀ c₀ f c t at → 64 ≤ length f₀ → 64 ≤ length c₀ → finishedFrom s (length s) at ≡ []

@@ -52,5 +52,5 @@ abbrev pub answerOf : Groups → Tally
 answerOf g = record { groups = length (g .firsts); other = g .other }
 
 -- a list at the start of a lent one
-abbrev pub front : List ℕ → List ℕ → List ℕ
+unfoldable pub front : List ℕ → List ℕ → List ℕ
 front l lent = l ++ drop (length l) lent

@@ -62,27 +62,23 @@ pub decimal-none : (s : List ℕ) → length s ≡ 0 → number.Nothing ≡ deci
 unfolding decimalIn isDecimal
 decimal-none s h = rw (lt-leb 1 (length s) (omega arith))
 
-pub decimal-long : (s : List ℕ) → 20 < length s → number.Nothing ≡ decimalIn s
+pub decimal-other : (s : List ℕ) → 1 ≤ length s → false ≡ allDigits 10 s → number.Nothing ≡ decimalIn s
 unfolding decimalIn isDecimal
-decimal-long s h = rw (le-leb 1 (length s) (omega arith), lt-leb (length s) 20 h)
+decimal-other s h e = rw (le-leb 1 (length s) h, ← e)
 
-pub decimal-other : (s : List ℕ) → 1 ≤ length s → length s ≤ 20 → false ≡ allDigits 10 s → number.Nothing ≡ decimalIn s
-unfolding decimalIn isDecimal
-decimal-other s h l e = rw (le-leb 1 (length s) h, le-leb (length s) 20 l, ← e)
-
-pub decimal-large : (s : List ℕ) (i n d : ℕ) → 1 ≤ length s → length s ≤ 20 → true ≡ allDigits 10 s → i < length s → numberAfter n (drop i s) ≡ numberOf s
+pub decimal-large : (s : List ℕ) (i n d : ℕ) → 1 ≤ length s → true ≡ allDigits 10 s → i < length s → numberAfter n (drop i s) ≡ numberOf s
     → d ≡ digitOf (getD s i 0) → 2 ^ 64 ≤ n * 10 + d → number.Nothing ≡ decimalIn s
 unfolding decimalIn isDecimal
-decimal-large s i n d h l e m v f x =
+decimal-large s i n d h e m v f x =
     let u : n * 10 + d ≤ numberOf s = rw (← v, ← number-next s i n d m f) (number-up (n * 10 + d) (drop (i + 1) s)) in
-    rw (le-leb 1 (length s) h, le-leb (length s) 20 l, ← e, le-ltb (numberOf s) (2 ^ 64) (omega arith))
+    rw (le-leb 1 (length s) h, ← e, le-ltb (numberOf s) (2 ^ 64) (omega arith))
 
-pub decimal-found : (s : List ℕ) (i n : ℕ) → 1 ≤ length s → length s ≤ 20 → true ≡ allDigits 10 s → length s ≤ i → numberAfter n (drop i s) ≡ numberOf s
+pub decimal-found : (s : List ℕ) (i n : ℕ) → 1 ≤ length s → true ≡ allDigits 10 s → length s ≤ i → numberAfter n (drop i s) ≡ numberOf s
     → n < 2 ^ 64 → number.Is n ≡ decimalIn s
 unfolding decimalIn isDecimal
-decimal-found s i n h l e m v x =
+decimal-found s i n h e m v x =
     let z : numberOf s ≡ n = sym v ∙ number-end s i n m in
-    rw (le-leb 1 (length s) h, le-leb (length s) 20 l, ← e, z, lt-ltb n (2 ^ 64) x)
+    rw (le-leb 1 (length s) h, ← e, z, lt-ltb n (2 ^ 64) x)
 
 -- Hex
 

@@ -45,49 +45,46 @@ unfolding numberAfter
 number-snoc n [] b = refl
 number-snoc n (a ∷ s) b = number-snoc (n * 10 + digitOf a) s b
 
--- s is a number n in at most k digits
-record Spells (k n : ℕ) (s : List ℕ) : Type 0 where
+-- s is a number n in digits
+record Spells (n : ℕ) (s : List ℕ) : Type 0 where
   some : 1 ≤ length s
-  most : length s ≤ k
   digits : allDigits 10 s ≡ true
   value : numberOf s ≡ n
 
-one : (k n : ℕ) → n < 10 → Spells (suc k) n (glyph n ∷ [])
+one : (n : ℕ) → n < 10 → Spells n (glyph n ∷ [])
 unfolding allDigits numberAfter
-one k n h =
+one n h =
     record {
       some = omega arith;
-      most = omega arith;
       digits = rw (digit-glyph n (omega arith), lt-ltb n 10 h);
       value = omega (arith, digit-glyph n (omega arith));
     }
 
-more : (k n : ℕ) (s : List ℕ) → Spells k (n / 10) s → Spells (suc k) n (s ++ (glyph (n % 10) ∷ []))
-more k n s w =
+more : (n : ℕ) (s : List ℕ) → Spells (n / 10) s → Spells n (s ++ (glyph (n % 10) ∷ []))
+more n s w =
     let g : digitOf (glyph (n % 10)) ≡ n % 10 = digit-glyph (n % 10) (omega arith) in
     let l : length (s ++ (glyph (n % 10) ∷ [])) ≡ length s + 1 = length-append s (glyph (n % 10) ∷ []) in
     record {
       some = omega arith;
-      most = omega (arith, w .most);
       digits = digits-snoc s (glyph (n % 10)) (omega arith) (w .digits);
       value = number-snoc 0 s (glyph (n % 10)) ∙ omega (arith, w .value);
     }
 
-by-test : (k n : ℕ) (s : List ℕ) (t : Bool) → ltb n 10 ≡ t → (10 ≤ n → Spells k (n / 10) s) → Spells (suc k) n (cond t (glyph n ∷ []) (s ++ (glyph (n % 10) ∷ [])))
-by-test k n s true e f = one k n (ltb-true n 10 e)
-by-test k n s false e f = more k n s (f (ltb-false n 10 e))
+by-test : (n : ℕ) (s : List ℕ) (t : Bool) → ltb n 10 ≡ t → (10 ≤ n → Spells (n / 10) s) → Spells n (cond t (glyph n ∷ []) (s ++ (glyph (n % 10) ∷ [])))
+by-test n s true e f = one n (ltb-true n 10 e)
+by-test n s false e f = more n s (f (ltb-false n 10 e))
 
-spells : (k n : ℕ) → n < 10 ^ suc k → Spells (suc k) n (decimalUpTo k n)
+spells : (k n : ℕ) → n < 10 ^ suc k → Spells n (decimalUpTo k n)
 unfolding decimalUpTo
-spells zero n h = one 0 n (omega arith)
-spells (suc k) n h = by-test (suc k) n (decimalUpTo k (n / 10)) (ltb n 10) refl (λ l. spells k (n / 10) (omega (arith, pow-suc 10 (suc k))))
+spells zero n h = one n (omega arith)
+spells (suc k) n h = by-test n (decimalUpTo k (n / 10)) (ltb n 10) refl (λ l. spells k (n / 10) (omega (arith, pow-suc 10 (suc k))))
 
 pub decimal-back : (n : ℕ) → n < 2 ^ 64 → decimalIn (decimalOf n) ≡ number.Is n
 unfolding decimalIn isDecimal decimalOf
 decimal-back n h =
     let s = decimalUpTo 19 n in
     let w = spells 19 n (omega arith) in
-    rw (le-leb 1 (length s) (w .some), le-leb (length s) 20 (w .most), w .digits, w .value, lt-ltb n (2 ^ 64) h)
+    rw (le-leb 1 (length s) (w .some), w .digits, w .value, lt-ltb n (2 ^ 64) h)
 
 -- Hex
 

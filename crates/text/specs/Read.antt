@@ -27,9 +27,9 @@ numberAfter n (b ∷ l) = numberAfter (n * 10 + digitOf b) l
 abbrev pub numberOf : List ℕ → ℕ
 numberOf s = numberAfter 0 s
 
--- a number in decimal is 1 to 20 digits, zeros in front or not, that stand for less than 2^64
+-- a number in decimal is one digit or more, zeros in front or not, that stand for less than 2^64
 unfoldable pub isDecimal : List ℕ → Bool
-isDecimal s = leb 1 (length s) && (leb (length s) 20 && (allDigits 10 s && ltb (numberOf s) (2 ^ 64)))
+isDecimal s = leb 1 (length s) && (allDigits 10 s && ltb (numberOf s) (2 ^ 64))
 
 unfoldable pub decimalIn : List ℕ → Number
 decimalIn s = cond (isDecimal s) (number.Is (numberOf s)) number.Nothing

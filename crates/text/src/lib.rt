@@ -130,14 +130,11 @@ fn wide(b: u8) -> u64
     b as u64
 }
 
-// The number that s is in decimal: 1 to 20 digits, zeros in front allowed, below 2^64.
+// The number that s is in decimal: one digit or more, zeros in front or not, below 2^64.
 pub fn decimal(s: &[u8]) -> Number
     ensures { λ r. ⌜ r ≡ decimalIn (now (s .entry)) ⌝ }
 {
     if s.len() == 0 {
-        return Number::Nothing;
-    }
-    if 20 < s.len() {
         return Number::Nothing;
     }
     if !all_digits(s, 10) {

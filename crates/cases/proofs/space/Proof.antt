@@ -1,5 +1,5 @@
-use denote.Ref.{now}
 -- `cases::space` finds the first space: the one of what is left, counted from i.
+use denote.Ref.{now}
 use native.Mathlib.Omega.{arith}
 use Prim.Native.Nat.{_+_, _-_}
 use mathlib.Core.Path.{_≡_}

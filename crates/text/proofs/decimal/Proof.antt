@@ -5,7 +5,7 @@ use Prim.Native.Nat.{_-_, _<_, _^_}
 use mathlib.Core.Path.{_≡_, refl, sym, _∙_}
 use lib.ListN.{length, drop}
 use Rattle.text.specs.Read.{numberAfter, numberOf}
-use Rattle.text.proofs.Reading.{number-next, decimal-none, decimal-long, decimal-other, decimal-large, decimal-found}
+use Rattle.text.proofs.Reading.{number-next, decimal-none, decimal-other, decimal-large, decimal-found}
 use borrow.Author.Needs.{needs}
 use Rattle.text.proofs.decimal.Statement.{statement}
 use Rattle.text.proofs.decimal.Tie as tie
@@ -19,14 +19,11 @@ abbrev μ-loop : tie.MeasureT-loop
 returns : tie.Need-returns Inv-loop μ-loop
 returns c = decimal-none _ (omega arith)
 
-returns-2 : tie.Need-returns-2 Inv-loop μ-loop
-returns-2 c = decimal-long _ (omega arith)
-
 all-digits-requires : tie.Need-all-digits-requires Inv-loop μ-loop
 all-digits-requires c κs = search needs
 
-returns-3 : tie.Need-returns-3 Inv-loop μ-loop
-returns-3 c = decimal-other _ (omega arith) (omega arith) (sym (not-true _ (c .if3 .taken)) ∙ c .before .all-digits .ensures)
+returns-2 : tie.Need-returns-2 Inv-loop μ-loop
+returns-2 c = decimal-other _ (omega arith) (sym (not-true _ (c .if2 .taken)) ∙ c .before .all-digits .ensures)
 
 loop-holds : tie.Need-loop-holds Inv-loop μ-loop
 loop-holds c = search needs
@@ -40,22 +37,22 @@ digit-of-requires c κs = search needs
 wide-requires : tie.Need-wide-requires Inv-loop μ-loop
 wide-requires c κs = search needs
 
-returns-4 : tie.Need-returns-4 Inv-loop μ-loop
-returns-4 c =
+returns-3 : tie.Need-returns-3 Inv-loop μ-loop
+returns-3 c =
     let l = c .before .before .before .before .before .loop in
-    decimal-large _ (l .i) (l .n) _ (omega arith) (omega arith) (sym (not-false _ (c .before .before .before .before .before .before .if3 .left)) ∙ c .before .before .before .before .before .before .before .all-digits .ensures) (omega arith) (l .inv .1)
+    decimal-large _ (l .i) (l .n) _ (omega arith) (sym (not-false _ (c .before .before .before .before .before .before .if2 .left)) ∙ c .before .before .before .before .before .before .before .all-digits .ensures) (omega arith) (l .inv .1)
     (c .before .wide .ensures ∙ c .before .before .digit-of .ensures) (omega arith)
 
-mul-if5 : tie.Need-mul-if5 Inv-loop μ-loop
-mul-if5 c = search needs
+mul-if4 : tie.Need-mul-if4 Inv-loop μ-loop
+mul-if4 c = search needs
 
-sub-if5 : tie.Need-sub-if5 Inv-loop μ-loop
-sub-if5 c = search needs
+sub-if4 : tie.Need-sub-if4 Inv-loop μ-loop
+sub-if4 c = search needs
 
-returns-5 : tie.Need-returns-5 Inv-loop μ-loop
-returns-5 c =
+returns-4 : tie.Need-returns-4 Inv-loop μ-loop
+returns-4 c =
     let l = c .before .before .before .before .before .before .loop in
-    decimal-large _ (l .i) (l .n) _ (omega arith) (omega arith) (sym (not-false _ (c .before .before .before .before .before .before .before .if3 .left)) ∙ c .before .before .before .before .before .before .before .before .all-digits .ensures) (omega arith) (l .inv .1)
+    decimal-large _ (l .i) (l .n) _ (omega arith) (sym (not-false _ (c .before .before .before .before .before .before .before .if2 .left)) ∙ c .before .before .before .before .before .before .before .before .all-digits .ensures) (omega arith) (l .inv .1)
     (c .before .before .wide .ensures ∙ c .before .before .before .digit-of .ensures) (omega arith)
 
 mul-n : tie.Need-mul-n Inv-loop μ-loop
@@ -75,10 +72,10 @@ loop-again c =
     let l = c .before .before .before .before .before .before .loop in
     (omega arith, number-next _ (l .i) (l .n) _ (omega arith) (c .before .before .wide .ensures ∙ c .before .before .before .digit-of .ensures) ∙ l .inv .1)
 
-returns-6 : tie.Need-returns-6 Inv-loop μ-loop
-returns-6 c =
+returns-5 : tie.Need-returns-5 Inv-loop μ-loop
+returns-5 c =
     let l = c .before .loop in
-    decimal-found _ (l .i) (l .n) (omega arith) (omega arith) (sym (not-false _ (c .before .before .if3 .left)) ∙ c .before .before .before .all-digits .ensures) (omega arith) (l .inv .1) (l .inv .0)
+    decimal-found _ (l .i) (l .n) (omega arith) (sym (not-false _ (c .before .before .if2 .left)) ∙ c .before .before .before .all-digits .ensures) (omega arith) (l .inv .1) (l .inv .0)
 
 pub decimal-spec : {M : Type 1} → statement M
 decimal-spec =
@@ -87,20 +84,19 @@ decimal-spec =
     Inv-loop
     μ-loop
     returns
-    returns-2
     all-digits-requires
-    returns-3
+    returns-2
     loop-holds
     shared-slice-read-digit-of
     digit-of-requires
     wide-requires
+    returns-3
+    mul-if4
+    sub-if4
     returns-4
-    mul-if5
-    sub-if5
-    returns-5
     mul-n
     add-n
     add-i
     loop-less
     loop-again
-    returns-6)
+    returns-5)
