@@ -1,4 +1,4 @@
--- The list of a run goes as its steps say, and an answer says which. Assumes nothing.
+-- The list of items goes as its steps say, and an answer says which. Assumes nothing.
 use Prim.Native.Nat.{ℕ, _+_, _<_}
 use mathlib.Core.Path.{_≡_, refl}
 use mathlib.Core.List.{List}
@@ -11,16 +11,19 @@ use Rattle.steps.proofs.Laws.{Moves, listed}
 use Rattle.klv.specs.Item.{Item, item}
 use Rattle.items.specs.declared.Found.{Found}
 use Rattle.items.specs.declared.Found.the-variants as answer
-use Rattle.items.specs.Items.{itemStep, runStep}
-use Rattle.items.specs.Told.{told}
+use Rattle.items.specs.declared.Held.{Held}
+use Rattle.items.specs.declared.Held.the-variants as held
+use Rattle.items.specs.Items.{itemStep}
+use Rattle.items.specs.Told.{told, localTold}
 use Rattle.items.proofs.Laws.{Fit, item-fits}
 
 pub item-moves : (key : ℕ) (ber : Bool) (s : List ℕ) → Moves (itemStep key ber s) (length s)
 item-moves key ber s p i next e = omega (arith, item-fits key ber s p i next e)
 
--- each step of a run gives the next of its list, and the end comes exactly at the list's end
-pub run-listed : (s : List ℕ) (p : ℕ) → listFrom (runStep s) (length s) p ≡ before (listFrom (runStep s) (length s)) (runStep s p)
-run-listed s = listed (runStep s) (length s) (item-moves 16 _ s)
+-- each step gives the next of its list, and the end comes exactly at the list's end
+pub item-listed : (key : ℕ) (ber : Bool) (s : List ℕ) (p : ℕ)
+    → listFrom (itemStep key ber s) (length s) p ≡ before (listFrom (itemStep key ber s) (length s)) (itemStep key ber s p)
+item-listed key ber s = listed (itemStep key ber s) (length s) (item-moves key ber s)
 
 -- two answers that say the same are the same
 pub told-once : (s : List ℕ) (p : ℕ) (a b : Found) → told s p a ≡ told s p b → a ≡ b
@@ -31,3 +34,12 @@ told-once s p (answer.Item k m) (answer.Item l n) e =
 told-once s p (answer.Item k m) answer.End e = let z : _≡_ {A = ℕ} 0 1 = cc in absurd (omega arith)
 told-once s p answer.End (answer.Item l n) e = let z : _≡_ {A = ℕ} 0 1 = cc in absurd (omega arith)
 told-once s p answer.End answer.End e = refl
+
+pub local-once : (tag : ℕ) (s : List ℕ) (p : ℕ) (a b : Held) → localTold tag s p a ≡ localTold tag s p b → a ≡ b
+local-once tag s p (held.Item k m) (held.Item l n) e =
+    let x : item tag s k ≡ item tag s l = cc in
+    let y : m .at ≡ n .at = cc in
+    λ i. held.Item (x i .klv) (record { at = y i })
+local-once tag s p (held.Item k m) held.End e = let z : _≡_ {A = ℕ} 0 1 = cc in absurd (omega arith)
+local-once tag s p held.End (held.Item l n) e = let z : _≡_ {A = ℕ} 0 1 = cc in absurd (omega arith)
+local-once tag s p held.End held.End e = refl

@@ -37,3 +37,7 @@ runStep s p = itemStep 16 true s p
 
 unfoldable pub runOf : List ℕ → List Item
 runOf s = listFrom (runStep s) (length s) 0
+
+-- a set's items from its start
+unfoldable pub itemsOf : ℕ → Bool → List ℕ → List Item
+itemsOf tag ber s = listFrom (itemStep tag ber s) (length s) 0

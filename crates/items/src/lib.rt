@@ -1,9 +1,10 @@
 // Items one behind the other, each a key or tag, a length and a value, up to the first that isn't whole: document 01,
 // "A run (`klvs`) is 16 bytes of any kind, a length, a value, repeated to the first that isn't whole. It looks for no
-// key start." A set's local items are the same step over another coding.
+// key start." "Local items: tag 2, length 2 (BER where the set's label byte 5 is 13h), up to the first not whole." Both
+// are one step over a coding.
 ghost use mathlib.Core.Path.{_≡_};
 ghost use Rattle.items.specs.Items.{lengthIn, itemStep, runStep};
-ghost use Rattle.items.specs.Told.{wholeTold, told};
+ghost use Rattle.items.specs.Told.{wholeTold, told, localTold};
 use klv::Klv;
 use lengths::Length;
 
@@ -75,5 +76,47 @@ impl Run {
         };
         let next = k.value + k.len;
         Found::Item(k, Run { at: next })
+    }
+}
+
+// How a set's items are coded: the bytes of a tag, and whether lengths are BER or of two bytes.
+pub struct Coding {
+    pub tag: usize,
+    pub ber: bool,
+}
+
+impl Coding {
+    // Label byte 5 is 53h: tags and lengths of 2 bytes.
+    pub const TWO_TWO: Coding = Coding { tag: 2, ber: false };
+    // Label byte 5 is 13h: tags of 2 bytes and BER lengths.
+    pub const TWO_BER: Coding = Coding { tag: 2, ber: true };
+    // Label byte 5 is 43h: tags of 1 byte and lengths of 2.
+    pub const ONE_TWO: Coding = Coding { tag: 1, ber: false };
+}
+
+// Where a set's items are read.
+pub struct Local {
+    pub at: usize,
+}
+
+// What a step over a set's items finds.
+pub enum Held {
+    // An item, its tag where it starts, and the cursor past it.
+    Item(Klv, Local),
+    // No whole one is left.
+    End,
+}
+
+impl Local {
+    // The item at the cursor, with the moved cursor, or the end.
+    pub fn step(self, s: &[u8], coding: Coding) -> Held
+        ensures { λ r. ⌜ localTold (coding .tag) (now (s .entry)) (self .at) r ≡ itemStep (coding .tag) (coding .ber) (now (s .entry)) (self .at) ⌝ }
+    {
+        let w = item_at(s, self.at, coding.tag, coding.ber);
+        let Whole::Is(k) = w else {
+            return Held::End;
+        };
+        let next = k.value + k.len;
+        Held::Item(k, Local { at: next })
     }
 }

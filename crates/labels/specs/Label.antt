@@ -1,9 +1,15 @@
 -- Labels: document 01, "Lengths and labels".
 use Prim.Native.Nat.{ℕ, zero, suc, _+_}
-use mathlib.Core.List.{List}
-use mathlib.Core.Bool.{Bool, true, _&&_, _||_}
+use mathlib.Core.List.{List, [], _∷_}
+use mathlib.Core.Bool.{Bool, true, false, _&&_, _||_}
 use lib.ListN.{length, getD, take, drop}
 use lib.Dec.{eqb}
+
+-- the first list is a beginning of the second
+unfoldable pub beginning : List ℕ → List ℕ → Bool
+beginning [] k = true
+beginning (x ∷ l) [] = false
+beginning (x ∷ l) (y ∷ k) = eqb x y && beginning l k
 
 -- the first n bytes agree, but for those at x, y and z
 unfoldable pub firstAgree : ℕ → ℕ → ℕ → List ℕ → List ℕ → ℕ → Bool
@@ -22,6 +28,10 @@ sameLabel a b = agreeBut 7 7 7 a b
 -- the label at a place, cut to the buffer
 abbrev pub labelAt : List ℕ → ℕ → List ℕ
 labelAt s at = take 16 (drop at s)
+
+-- what every key starts with
+abbrev pub keyStart : List ℕ
+keyStart = 0x06 ∷ 0x0e ∷ 0x2b ∷ 0x34 ∷ []
 
 -- 06 0e 2b 34 stand at q
 unfoldable pub keyAt : List ℕ → ℕ → Bool

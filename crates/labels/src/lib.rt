@@ -1,7 +1,7 @@
 // Labels: document 01, "Lengths and labels". Two labels are the same when both have 16 bytes and agree in all but the
 // byte at 7.
 ghost use mathlib.Core.Path.{_≡_};
-ghost use Rattle.labels.specs.Label.{agreeBut, sameLabel, labelAt};
+ghost use Rattle.labels.specs.Label.{beginning, agreeBut, sameLabel, labelAt};
 
 // What every key starts with: a SMPTE universal label's first bytes (ST 336).
 pub const KEY_START: [u8; 4] = [0x06, 0x0e, 0x2b, 0x34];
@@ -43,6 +43,23 @@ pub const PRIMER: [u8; 16] = [
     0x01,
     0x00,
 ];
+
+// Whether the first is a beginning of the second.
+pub fn begins(l: &[u8], k: &[u8]) -> bool
+    ensures { λ r. ⌜ r ≡ beginning (now (l .entry)) (now (k .entry)) ⌝ }
+{
+    let mut i = 0;
+    while i < l.len() {
+        if k.len() <= i {
+            return false;
+        }
+        if l[i] != k[i] {
+            return false;
+        }
+        i += 1;
+    }
+    true
+}
 
 // Whether two labels have 16 bytes each and agree in all but those at three places. No branch on a byte, so that the 16
 // are compared at once.

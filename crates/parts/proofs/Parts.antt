@@ -29,6 +29,10 @@ part-cut s at n =
     ap (λ (k : ℕ). take (min n k) (drop (min at (length s)) s)) (sym (length-drop (min at (length s)) s))
     ∙ take-min n (drop (min at (length s)) s) ∙ ap (take n) (drop-min s at)
 
+-- the part s[at..]
+pub part-rest : (s : List ℕ) (at : ℕ) → take (length s - at) (drop at s) ≡ drop at s
+part-rest s at = take-all (length s - at) (drop at s) (omega (arith, length-drop at s))
+
 module _ (s : List ℕ) (at n : ℕ) where
   pub part-length : at + n ≤ length s → length (take n (drop at s)) ≡ n
   part-length h = simp (length-take, length-drop) (omega arith)

@@ -11,9 +11,9 @@ use lib.ListN.{length, getD, drop, length-drop, List·getD-append}
 use lib.Seq.{getD-drop}
 use lib.Dec.{eqb}
 use borrow.Author.Tests.{eq-eqb, eqb-true}
-use Rattle.labels.specs.Label.{keyAt}
-use Rattle.labels.proofs.Laws.{key-cut}
-use Rattle.search.specs.Search.{keyBefore, first, firstBelow, searchFrom, beginning, keyStart, keyBegins, waitFrom}
+use Rattle.labels.specs.Label.{keyAt, keyStart}
+use Rattle.labels.proofs.Beginnings.{begins-so}
+use Rattle.search.specs.Search.{keyBefore, first, firstBelow, searchFrom, keyBegins}
 use Rattle.search.proofs.Laws.{key-past, key-within}
 
 module _ (t : ℕ → Bool) where
@@ -66,12 +66,6 @@ pub key-room : (s : List ℕ) (e q : ℕ) → keyBefore s e q ≡ true → q + 4
 key-room s e q b = by-cases (decLt e (q + 4)) (λ h. absurd (false≢true (key-past s e q h ∙ b))) (λ h. omega arith)
 
 -- Beginnings
-
-begins-so : (l k : List ℕ) → length l ≤ length k → ((j : ℕ) → j < length l → getD l j 0 ≡ getD k j 0) → beginning l k ≡ true
-unfolding beginning
-begins-so [] k h same = refl
-begins-so (x ∷ l) [] h same = absurd (omega arith)
-begins-so (x ∷ l) (y ∷ k) h same = rw (eq-eqb x y (same 0 (omega arith)), begins-so l k (omega arith) (λ j m. same (suc j) (omega arith)))
 
 all-four : (a b c d : Bool) → (a && (b && (c && d))) ≡ true → (a ≡ true) × (b ≡ true) × (c ≡ true) × (d ≡ true)
 all-four true true true d h = (refl, refl, refl, h)

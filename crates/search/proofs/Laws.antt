@@ -10,8 +10,9 @@ use lib.ListN.{length, getD, drop, drop-of-length-le, length-drop}
 use lib.Seq.{drop-cons}
 use lib.Dec.{leb, eqb}
 use borrow.Author.Tests.{le-leb, lt-leb, eq-eqb, ne-eqb}
-use Rattle.labels.specs.Label.{keyAt}
-use Rattle.search.specs.Search.{keyBefore, first, firstBelow, searchFrom, nextKey, beginning, keyStart, keyBegins, waitFrom, Passes}
+use Rattle.labels.specs.Label.{beginning, keyAt, keyStart}
+use Rattle.labels.proofs.Beginnings.{too-long}
+use Rattle.search.specs.Search.{keyBefore, first, firstBelow, searchFrom, nextKey, keyBegins, waitFrom, Passes}
 
 -- Counting up to n: what is left of it is one more than what is left after the next
 pub left-suc : (n i : ℕ) → i < n → n - i ≡ suc (n - (i + 1))
@@ -88,32 +89,6 @@ below-up t e q = first-up t (e - q) q
 pub search-up : (s : List ℕ) (e q : ℕ) → q ≤ searchFrom s e q
 search-up s e q = below-up (keyBefore s e) e q
 
--- the bytes from q on are a beginning of the key's start from i on
-pub restBegins : List ℕ → ℕ → ℕ → Bool
-restBegins a q i = beginning (drop q a) (drop i keyStart)
-
-pub begins-here : (a : List ℕ) (q : ℕ) → restBegins a q 0 ≡ keyBegins a q
-unfolding restBegins keyBegins
-begins-here a q = refl
-
-module _ (a : List ℕ) (q : ℕ) (i : ℕ) where
-  pub begins-end : length a ≤ q → true ≡ restBegins a q i
-  unfolding restBegins beginning
-  begins-end h = rw (drop-of-length-le a h)
-
-  module _ (h : q < length a) where
-    pub begins-over : 4 ≤ i → false ≡ restBegins a q i
-    unfolding restBegins beginning
-    begins-over m = rw (drop-cons a q 0 h, drop-of-length-le keyStart m)
-
-    pub begins-differs : i < 4 → (getD a q 0 ≡ getD keyStart i 0 → ⊥) → false ≡ restBegins a q i
-    unfolding restBegins beginning
-    begins-differs m n = rw (drop-cons a q 0 h, drop-cons keyStart i 0 m, ne-eqb (getD a q 0) (getD keyStart i 0) n)
-
-    pub begins-equal : i < 4 → getD a q 0 ≡ getD keyStart i 0 → restBegins a (q + 1) (i + 1) ≡ restBegins a q i
-    unfolding restBegins beginning
-    begins-equal m n = rw (drop-cons a q 0 h, drop-cons keyStart i 0 m, eq-eqb (getD a q 0) (getD keyStart i 0) n, add-one q, add-one i)
-
 -- Blocks
 
 module _ (s : List ℕ) where
@@ -141,11 +116,10 @@ module _ (s : List ℕ) where
 
 -- Waiting places
 
-too-long : (l k : List ℕ) → length k < length l → beginning l k ≡ false
-unfolding beginning
-too-long [] k h = absurd (omega arith)
-too-long (x ∷ l) [] h = refl
-too-long (x ∷ l) (y ∷ k) h = rw (too-long l k (omega arith), and-false)
+-- no bytes begin one
+pub begins-past : (a : List ℕ) (q : ℕ) → length a ≤ q → true ≡ keyBegins a q
+unfolding keyBegins beginning
+begins-past a q h = rw (drop-of-length-le a h)
 
 -- more bytes than a key's start has begin none
 pub begins-late : (a : List ℕ) (q : ℕ) → q + 4 < length a → keyBegins a q ≡ false

@@ -1,11 +1,11 @@
 -- The search for a key's start: document 01, "The walk", rule 2, and "The arriving walk".
 use Prim.Native.Nat.{ℕ, zero, suc, _+_, _-_, _≤_, min}
 use mathlib.Core.Path.{_≡_}
-use mathlib.Core.List.{List, [], _∷_}
-use mathlib.Core.Bool.{Bool, true, false, cond, _&&_}
+use mathlib.Core.List.{List}
+use mathlib.Core.Bool.{Bool, cond, _&&_}
 use lib.ListN.{length, drop}
-use lib.Dec.{leb, eqb}
-use Rattle.labels.specs.Label.{keyAt}
+use lib.Dec.{leb}
+use Rattle.labels.specs.Label.{beginning, keyAt, keyStart}
 
 -- 06 0e 2b 34 stand at q wholly before e
 unfoldable pub keyBefore : List ℕ → ℕ → ℕ → Bool
@@ -27,15 +27,6 @@ searchFrom s e q = firstBelow (keyBefore s e) e q
 -- the same with an end anywhere: one past the buffer is the buffer's
 abbrev pub nextKey : List ℕ → ℕ → ℕ → ℕ
 nextKey s e q = searchFrom s (min e (length s)) q
-
--- the first list is a beginning of the second
-unfoldable pub beginning : List ℕ → List ℕ → Bool
-beginning [] k = true
-beginning (x ∷ l) [] = false
-beginning (x ∷ l) (y ∷ k) = eqb x y && beginning l k
-
-abbrev pub keyStart : List ℕ
-keyStart = 0x06 ∷ 0x0e ∷ 0x2b ∷ 0x34 ∷ []
 
 -- all bytes from q to the end are a beginning of 06 0e 2b 34
 unfoldable pub keyBegins : List ℕ → ℕ → Bool

@@ -133,19 +133,10 @@ pub fn next_key(s: &[u8], end: usize, from: usize) -> usize
 fn key_begins(a: &[u8], q: usize) -> bool
     ensures { λ r. ⌜ r ≡ keyBegins (now (a .entry)) q ⌝ }
 {
-    let mut i = 0;
-    let mut at = q;
-    while at < a.len() {
-        if 4 <= i {
-            return false;
-        }
-        if a[at] != KEY_START[i] {
-            return false;
-        }
-        i += 1;
-        at += 1;
+    if a.len() < q {
+        return true;
     }
-    true
+    labels::begins(&a[q..], &KEY_START)
 }
 
 // The first place from one on from which all bytes begin a key's start, else the end, place by place.

@@ -3,9 +3,9 @@ use mathlib.Core.Path.{refl}
 use native.Mathlib.Omega.{arith}
 use lib.ListN.{length}
 use Rattle.parts.specs.Number.{numberAt}
-use Rattle.labels.specs.Label.{keyAt}
+use Rattle.labels.specs.Label.{beginning, keyAt}
 use Rattle.lengths.specs.Length.{heldAt, lengthBy, lengthAt}
-use Rattle.search.specs.Search.{keyBefore, first, firstBelow, beginning, keyBegins}
+use Rattle.search.specs.Search.{keyBefore, first, firstBelow, keyBegins}
 use Rattle.steps.specs.Listed.{before, atMost, listFrom}
 use Rattle.walk.specs.Rules.{byValue, byLength, rules}
 use Rattle.walk.specs.Walk.{onTurn, turnsAtMost, walked, stepped, finishedAfter, finishedBy, arrivingAfter, arrivingBy, arrivingStep}

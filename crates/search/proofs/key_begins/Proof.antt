@@ -1,62 +1,49 @@
--- `search::key_begins` meets its contract. The loop's invariant: what is left begins what is left of a key's start exactly where the whole does.
-use Prim.Native.Nat.{_-_}
-use mathlib.Core.Path.{_≡_, refl, _∙_}
+-- `search::key_begins` meets its contract: it asks whether what is left begins a key's start.
+use Prim.Native.Nat.{ℕ}
+use mathlib.Core.Path.{ap, _∙_}
+use mathlib.Core.List.{List}
 use native.Mathlib.Omega.{arith}
-use lib.ListN.{length}
+use denote.Ref.{now}
+use Rattle.parts.proofs.Parts.{part-rest}
+use Rattle.labels.specs.Label.{beginning, keyStart}
 use Rattle.search.specs.Search.{keyBegins}
-use Rattle.search.proofs.Laws.{restBegins, begins-here, begins-end, begins-over, begins-differs, begins-equal}
+use Rattle.search.proofs.Laws.{begins-past}
+use borrow.Author.Needs.{needs}
 use Rattle.search.proofs.key_begins.Statement.{statement}
 use Rattle.search.proofs.key_begins.Tie as tie
 
-abbrev Inv-loop : tie.InvT-loop
-Inv-loop a q i₀ at₀ i at = restBegins a at i ≡ keyBegins a q
+returns : tie.Need-returns
+returns c = begins-past _ _ (omega arith)
 
-abbrev μ-loop : tie.MeasureT-loop
-μ-loop a q i₀ at₀ i at = length a - at
+sub-begins : tie.Need-sub-begins
+sub-begins c = search needs
 
-loop-holds : tie.Need-loop-holds Inv-loop μ-loop
-loop-holds c = begins-here _ _
+part-begins-start : tie.Need-part-begins-start
+part-begins-start c = search needs
 
-returns : tie.Need-returns Inv-loop μ-loop
-returns c = begins-over _ _ _ (omega arith) (omega arith) ∙ c .before .before .loop .inv
+part-begins-end : tie.Need-part-begins-end
+part-begins-end c = search needs
 
-shared-slice-read-if2 : tie.Need-shared-slice-read-if2 Inv-loop μ-loop
-shared-slice-read-if2 c = omega arith
+slice-aggregate-begins : tie.Need-slice-aggregate-begins
+slice-aggregate-begins c = search needs
 
-array-read-if2 : tie.Need-array-read-if2 Inv-loop μ-loop
-array-read-if2 c = omega arith
+begins-requires : tie.Need-begins-requires
+begins-requires c κs = search needs
 
-returns-2 : tie.Need-returns-2 Inv-loop μ-loop
-returns-2 c = begins-differs _ _ _ (omega arith) (omega arith) (omega arith) ∙ c .before .before .before .before .loop .inv
-
-add-i : tie.Need-add-i Inv-loop μ-loop
-add-i c = omega arith
-
-add-at : tie.Need-add-at Inv-loop μ-loop
-add-at c = omega arith
-
-loop-less : tie.Need-loop-less Inv-loop μ-loop
-loop-less c = omega arith
-
-loop-again : tie.Need-loop-again Inv-loop μ-loop
-loop-again c = begins-equal _ _ _ (omega arith) (omega arith) (omega arith) ∙ c .before .before .before .before .loop .inv
-
-returns-3 : tie.Need-returns-3 Inv-loop μ-loop
-returns-3 c = begins-end _ _ _ (omega arith) ∙ c .before .loop .inv
+returns-2 : tie.Need-returns-2
+unfolding keyBegins
+returns-2 c =
+    let a = c .before .before .before .before .before .args in
+    c .begins .ensures ∙ ap (λ (l : List ℕ). beginning l keyStart) (part-rest (now (a .a)) (a .q))
 
 pub key-begins-spec : {M : Type 1} → statement M
 key-begins-spec =
     tie.close
     (tie.spec
-    Inv-loop
-    μ-loop
-    loop-holds
     returns
-    shared-slice-read-if2
-    array-read-if2
-    returns-2
-    add-i
-    add-at
-    loop-less
-    loop-again
-    returns-3)
+    sub-begins
+    part-begins-start
+    part-begins-end
+    slice-aggregate-begins
+    begins-requires
+    returns-2)

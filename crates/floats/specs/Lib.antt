@@ -1,0 +1,3 @@
+pub mod Rounding
+pub mod Quotients
+pub mod Near

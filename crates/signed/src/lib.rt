@@ -1,0 +1,53 @@
+// Signed reads: a number that was read as unsigned bits, as the signed number that a file means by them.
+//
+// Document 01: "angles at E0h and E4h are the low 16 bits, signed, over 10"; "tags 1501h and 1201h are signed". In `of_alexa35` the
+// whole numbers are signed, and in Canon's packs a value lies around 80h or 8000h.
+ghost use mathlib.Core.Path.{_≡_};
+ghost use Rattle.signed.specs.Signed.{signedBits, around};
+
+// The 16 bits of v as a signed number.
+pub fn signed16(v: u16) -> i16
+    ensures { λ r. ⌜ r ≡ signedBits 16 v ⌝ }
+{
+    if v < 32768 {
+        v as i16
+    } else {
+        -1 - ((65535 - v) as i16)
+    }
+}
+
+// The 32 bits of v as a signed number.
+pub fn signed32(v: u32) -> i32
+    ensures { λ r. ⌜ r ≡ signedBits 32 v ⌝ }
+{
+    if v < 2147483648 {
+        v as i32
+    } else {
+        -1 - ((4294967295 - v) as i32)
+    }
+}
+
+// The 64 bits of v as a signed number.
+pub fn signed64(v: u64) -> i64
+    ensures { λ r. ⌜ r ≡ signedBits 64 v ⌝ }
+{
+    if v < 9223372036854775808 {
+        v as i64
+    } else {
+        -1 - ((18446744073709551615 - v) as i64)
+    }
+}
+
+// A byte that counts from 80h.
+pub fn around8(v: u8) -> i16
+    ensures { λ r. ⌜ r ≡ around 8 v ⌝ }
+{
+    (v as i16) - 128
+}
+
+// Two bytes that count from 8000h.
+pub fn around16(v: u16) -> i32
+    ensures { λ r. ⌜ r ≡ around 16 v ⌝ }
+{
+    (v as i32) - 32768
+}
