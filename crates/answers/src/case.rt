@@ -17,6 +17,12 @@ pub const ARRIVE: u8 = 5;
 
 pub const TALLY: u8 = 6;
 
+pub const HEADER: u8 = 7;
+
+pub const PRIMER: u8 = 8;
+
+pub const ITEMS: u8 = 9;
+
 // A case: its word's number, its numbers, and how many bytes it has.
 pub struct Case {
     pub word: u8,
@@ -51,13 +57,22 @@ fn word_of(w: &[u8]) -> u8 {
     if same(w, b"tally") {
         return TALLY;
     }
+    if same(w, b"header") {
+        return HEADER;
+    }
+    if same(w, b"primer") {
+        return PRIMER;
+    }
+    if same(w, b"items") {
+        return ITEMS;
+    }
     0
 }
 
 // How many numbers a word has before its bytes.
 fn numbers(word: u8) -> u8 {
     match word {
-        WALK | ARRIVE => 1,
+        WALK | ARRIVE | ITEMS => 1,
         STEP => 2,
         _ => 0,
     }

@@ -3,6 +3,14 @@ use crate::case;
 use crate::case::Case;
 use crate::case::Line;
 
+// Puts local items, with lengths of two bytes for 0 and BER for 1.
+fn items(out: &mut [u8], at: usize, s: &[u8], coding: usize) -> usize {
+    if 1 < coding {
+        return text::put_byte(out, at, b'?');
+    }
+    answer_tables::items_of(out, at, s, coding == 1)
+}
+
 // Puts the answer to a case over its bytes.
 fn reply(c: Case, s: &[u8], out: &mut [u8], at: usize) -> usize {
     let word = c.word;
@@ -15,6 +23,9 @@ fn reply(c: Case, s: &[u8], out: &mut [u8], at: usize) -> usize {
         case::STEP => answer_walk::step(out, at, s, a, b),
         case::ARRIVE => answer_walk::arrive(out, at, s, a),
         case::TALLY => answer_tally::tally(out, at, s),
+        case::HEADER => answer_tables::header_of(out, at, s),
+        case::PRIMER => answer_tables::primer_of(out, at, s),
+        case::ITEMS => items(out, at, s, a),
         _ => text::put_byte(out, at, b'?'),
     }
 }
