@@ -1,5 +1,6 @@
 -- `arri_block::in_run` meets its contract. The loop's invariant: the items from the cursor on give what the whole gives.
-use Rattle.arri_block.proofs.Laws.{itemsFrom, first-end, first-hit, first-passed}
+use Rattle.items.proofs.From.{itemsFrom, run-item, run-end}
+use Rattle.arri_block.proofs.Laws.{first-end, first-hit, first-passed}
 use Rattle.arri_block.specs.Block.{firstOf, inRunItem, inRun}
 use Rattle.items.specs.Items.{itemStep, runOf}
 use Rattle.items.proofs.Laws.{Fit, item-fits}
@@ -26,7 +27,7 @@ abbrev μ-loop : tie.MeasureT-loop
 is-found : (k : tie.After-step2 Inv-loop μ-loop)
     → itemStep 16 true (now (k .before .before .before .before .before .args .s)) (k .before .before .before .loop .at)
     ≡ found (item 16 (now (k .before .before .before .before .before .args .s)) (k .step2 .given .0 .0)) (k .step2 .given .0 .1 .0 .at)
-is-found k = sym (rw (k .step2 .given .1) at (k .before .before .step .ensures))
+is-found k = run-item _ _ _ (k .before .before .step .ensures) _ _ (k .step2 .given .1)
 
 is-fit : (k : tie.After-step2 Inv-loop μ-loop)
     → Fit 16 (now (k .before .before .before .before .before .args .s)) (k .before .before .before .loop .at) (item 16 (now (k .before .before .before .before .before .args .s)) (k .step2 .given .0 .0)) (k .step2 .given .0 .1 .0 .at)
@@ -48,7 +49,7 @@ enum-told c = search needs
 returns : tie.Need-returns Inv-loop μ-loop
 returns c =
     let l = c .before .before .before in
-    sym (first-end 16 true _ _ _ (sym (rw (c .enum-told .given .1) at (c .before .before .step .ensures)))) ∙ l .loop .inv
+    sym (first-end 16 true _ _ _ (run-end _ _ _ (c .before .before .step .ensures) (c .enum-told .given .1))) ∙ l .loop .inv
 
 in-run-item-requires : tie.Need-in-run-item-requires Inv-loop μ-loop
 in-run-item-requires c κs = omega (arith, is-fit (c .before))
