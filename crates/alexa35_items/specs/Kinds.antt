@@ -89,3 +89,9 @@ tintOf single.Nothing = double.Nothing
 unfoldable pub densityOf : Single → Double
 densityOf (single.Is x) = double.Is (density x)
 densityOf single.Nothing = double.Nothing
+
+abbrev pub tintIn : List ℕ → Double
+tintIn v = tintOf (floatIn v)
+
+abbrev pub densityIn : List ℕ → Double
+densityIn v = densityOf (floatIn v)
