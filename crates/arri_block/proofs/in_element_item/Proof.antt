@@ -1,0 +1,46 @@
+-- `arri_block::in_element_item` meets its contract: the branch is the definition's, and the block lies in the item.
+use borrow.Author.Tests.{eq-eqb, ne-eqb}
+use Rattle.arri_block.proofs.Ending.{part-ends, run-ends}
+use Rattle.arri_block.specs.Block.{placedAt, inRun, inElementItem}
+use denote.Ref.{now}
+use lib.ListN.{take, drop, length}
+use Prim.Native.Nat.{ℕ}
+use mathlib.Core.List.{List}
+use native.Mathlib.Omega.{arith}
+use mathlib.Core.Path.{_≡_, sym, ap, _∙_}
+use borrow.Author.Needs.{needs}
+use Rattle.arri_block.proofs.in_element_item.Statement.{statement}
+use Rattle.arri_block.proofs.in_element_item.Tie as tie
+
+abbrev part-of : tie.After-in-run → List ℕ
+part-of c = take (c .before .before .before .before .before .args .k .len) (drop (c .before .before .before .before .before .args .k .value) (now (c .before .before .before .before .before .args .s)))
+
+is-block : (c : tie.After-in-run) → c .in-run .result ≡ inRun (part-of c)
+is-block c = c .in-run .ensures ∙ ap inRun (c .before .bytes .ensures)
+
+tag-requires : tie.Need-tag-requires
+tag-requires c κs = search needs
+
+bytes-requires : tie.Need-bytes-requires
+bytes-requires c κs = search needs
+
+in-run-requires : tie.Need-in-run-requires
+in-run-requires c κs = search needs
+
+placed-requires : tie.Need-placed-requires
+placed-requires c κs = λ p e.
+    let a = c .before .before .before .before .before in
+    omega (arith, part-ends (now (a .args .s)) (a .args .k .value) (a .args .k .len) _ (a .pre) (run-ends (part-of c)) p (ap (placedAt (a .args .k .value)) (sym (is-block c)) ∙ e))
+
+returns : tie.Need-returns
+unfolding inElementItem
+returns c = rw (c .placed .ensures, is-block (c .before)) (simp (eq-eqb _ _ (sym (c .before .before .before .before .tag .ensures) ∙ c .before .before .before .if1 .taken)))
+
+returns-2 : tie.Need-returns-2
+unfolding inElementItem
+returns-2 c = simp (ne-eqb _ _ (λ e. c .if1 .left (c .before .tag .ensures ∙ e)))
+
+pub in-element-item-spec : {M : Type 1} → statement M
+in-element-item-spec =
+    tie.close
+    (tie.spec tag-requires bytes-requires in-run-requires placed-requires returns returns-2)

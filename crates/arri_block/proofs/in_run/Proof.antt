@@ -1,0 +1,92 @@
+-- `arri_block::in_run` meets its contract. The loop's invariant: the items from the cursor on give what the whole gives.
+use Rattle.items.proofs.From.{itemsFrom, run-item, run-end}
+use Rattle.arri_block.proofs.Laws.{first-end, first-hit, first-passed}
+use Rattle.arri_block.specs.Block.{firstOf, inRunItem, inRun}
+use Rattle.items.specs.Items.{itemStep, runOf}
+use Rattle.items.proofs.Laws.{Fit, item-fits}
+use Rattle.klv.specs.Item.{item}
+use Rattle.steps.specs.Listed.{listFrom}
+use Rattle.steps.specs.Told.{found, nothing}
+use lib.ListN.{length}
+use denote.Ref.{now}
+use native.Mathlib.Omega.{arith}
+use mathlib.Core.Bool.{true, false}
+use mathlib.Core.Path.{_≡_, refl, sym, ap, _∙_}
+use Prim.Native.Nat.{ℕ, _-_}
+use borrow.Author.Needs.{needs}
+use Rattle.arri_block.proofs.in_run.Statement.{statement}
+use Rattle.arri_block.proofs.in_run.Tie as tie
+
+abbrev Inv-loop : tie.InvT-loop
+Inv-loop s at₀ at = firstOf (inRunItem s) (itemsFrom 16 true s at) ≡ inRun s
+
+abbrev μ-loop : tie.MeasureT-loop
+μ-loop s at₀ at = length s - at
+
+-- where a turn finds an item
+is-found : (k : tie.After-step2 Inv-loop μ-loop)
+    → itemStep 16 true (now (k .before .before .before .before .before .args .s)) (k .before .before .before .loop .at)
+    ≡ found (item 16 (now (k .before .before .before .before .before .args .s)) (k .step2 .given .0 .0)) (k .step2 .given .0 .1 .0 .at)
+is-found k = run-item _ _ _ (k .before .before .step .ensures) _ _ (k .step2 .given .1)
+
+is-fit : (k : tie.After-step2 Inv-loop μ-loop)
+    → Fit 16 (now (k .before .before .before .before .before .args .s)) (k .before .before .before .loop .at) (item 16 (now (k .before .before .before .before .before .args .s)) (k .step2 .given .0 .0)) (k .step2 .given .0 .1 .0 .at)
+is-fit k = item-fits 16 true _ _ _ _ (is-found k)
+
+loop-holds : tie.Need-loop-holds Inv-loop μ-loop
+unfolding inRun runOf
+loop-holds c = refl
+
+step-requires : tie.Need-step-requires Inv-loop μ-loop
+step-requires c κs = search needs
+
+enum-known-step : tie.Need-enum-known-step Inv-loop μ-loop
+enum-known-step c = search needs
+
+enum-told : tie.Need-enum-told Inv-loop μ-loop
+enum-told c = search needs
+
+returns : tie.Need-returns Inv-loop μ-loop
+returns c =
+    let l = c .before .before .before in
+    sym (first-end 16 true _ _ _ (run-end _ _ _ (c .before .before .step .ensures) (c .enum-told .given .1))) ∙ l .loop .inv
+
+in-run-item-requires : tie.Need-in-run-item-requires Inv-loop μ-loop
+in-run-item-requires c κs = omega (arith, is-fit (c .before))
+
+enum-told-2 : tie.Need-enum-told-2 Inv-loop μ-loop
+enum-told-2 c = search needs
+
+returns-2 : tie.Need-returns-2 Inv-loop μ-loop
+returns-2 c =
+    let k = c .before .before .before .before in
+    c .before .before .in-run-item .ensures ∙ sym (first-hit 16 true _ _ _ _ (is-found k) _ _ (sym (c .before .before .in-run-item .ensures) ∙ c .enum-told2 .given .1)) ∙ k .before .before .before .loop .inv
+
+enum-told-3 : tie.Need-enum-told-3 Inv-loop μ-loop
+enum-told-3 c = search needs
+
+loop-less : tie.Need-loop-less Inv-loop μ-loop
+loop-less c = omega (arith, is-fit (c .before .before .before .before))
+
+loop-again : tie.Need-loop-again Inv-loop μ-loop
+loop-again c =
+    let k = c .before .before .before .before in
+    sym (first-passed 16 true _ _ _ _ (is-found k) _ (sym (c .before .before .in-run-item .ensures) ∙ c .enum-told3 .given .1)) ∙ k .before .before .before .loop .inv
+
+pub in-run-spec : {M : Type 1} → statement M
+in-run-spec =
+    tie.close
+    (tie.spec
+    Inv-loop
+    μ-loop
+    loop-holds
+    step-requires
+    enum-known-step
+    enum-told
+    returns
+    in-run-item-requires
+    enum-told-2
+    returns-2
+    enum-told-3
+    loop-less
+    loop-again)

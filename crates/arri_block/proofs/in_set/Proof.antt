@@ -1,0 +1,88 @@
+-- `arri_block::in_set` meets its contract. The loop's invariant: the items from the cursor on give what the whole set gives.
+use Rattle.items.proofs.From.{itemsFrom, held-item, held-end}
+use Rattle.arri_block.proofs.Laws.{tag-end, tag-hit, tag-passed}
+use Rattle.arri_block.specs.Block.{inItems, inSet}
+use Rattle.items.proofs.Laws.{Fit, item-fits}
+use Rattle.items.specs.Items.{itemStep, itemsOf}
+use Rattle.klv.specs.Item.{item}
+use Rattle.steps.specs.Listed.{listFrom}
+use Rattle.steps.specs.Told.{found, nothing}
+use lib.ListN.{length}
+use denote.Ref.{now}
+use native.Mathlib.Omega.{arith}
+use mathlib.Core.Bool.{true, false}
+use mathlib.Core.Path.{_≡_, refl, sym, ap, _∙_}
+use Prim.Native.Nat.{ℕ, _-_}
+use borrow.Author.Needs.{needs}
+use Rattle.arri_block.proofs.in_set.Statement.{statement}
+use Rattle.arri_block.proofs.in_set.Tie as tie
+
+abbrev Inv-loop : tie.InvT-loop
+Inv-loop s at₀ at = inItems (itemsFrom 2 false s at) ≡ inSet s
+
+abbrev μ-loop : tie.MeasureT-loop
+μ-loop s at₀ at = length s - at
+
+-- where a turn finds an item
+is-found : (k : tie.After-step2 Inv-loop μ-loop)
+    → itemStep 2 false (now (k .before .before .before .before .before .args .s)) (k .before .before .before .loop .at)
+    ≡ found (item 2 (now (k .before .before .before .before .before .args .s)) (k .step2 .given .0 .0)) (k .step2 .given .0 .1 .0 .at)
+is-found k = held-item 2 false _ _ _ (k .before .before .step .ensures) _ _ (k .step2 .given .1)
+
+is-fit : (k : tie.After-step2 Inv-loop μ-loop)
+    → Fit 2 (now (k .before .before .before .before .before .args .s)) (k .before .before .before .loop .at) (item 2 (now (k .before .before .before .before .before .args .s)) (k .step2 .given .0 .0)) (k .step2 .given .0 .1 .0 .at)
+is-fit k = item-fits 2 false _ _ _ _ (is-found k)
+
+loop-holds : tie.Need-loop-holds Inv-loop μ-loop
+unfolding inSet itemsOf
+loop-holds c = refl
+
+step-requires : tie.Need-step-requires Inv-loop μ-loop
+step-requires c κs = search needs
+
+enum-known-step : tie.Need-enum-known-step Inv-loop μ-loop
+enum-known-step c = search needs
+
+enum-told : tie.Need-enum-told Inv-loop μ-loop
+enum-told c = search needs
+
+returns : tie.Need-returns Inv-loop μ-loop
+returns c =
+    let l = c .before .before .before in
+    sym (tag-end 2 false _ _ (held-end 2 false _ _ _ (c .before .before .step .ensures) (c .enum-told .given .1))) ∙ l .loop .inv
+
+tag-requires : tie.Need-tag-requires Inv-loop μ-loop
+tag-requires c κs = search needs
+
+first-bytes-requires : tie.Need-first-bytes-requires Inv-loop μ-loop
+first-bytes-requires c κs = search needs
+
+returns-2 : tie.Need-returns-2 Inv-loop μ-loop
+returns-2 c =
+    let k = c .before .before .before .before in
+    c .first-bytes .ensures ∙ sym (tag-hit 2 false _ _ _ _ (is-found k) (sym (c .before .before .tag .ensures) ∙ c .before .if1 .taken)) ∙ k .before .before .before .loop .inv
+
+loop-less : tie.Need-loop-less Inv-loop μ-loop
+loop-less c = omega (arith, is-fit (c .before .before .before))
+
+loop-again : tie.Need-loop-again Inv-loop μ-loop
+loop-again c =
+    let k = c .before .before .before in
+    sym (tag-passed 2 false _ _ _ _ (is-found k) (λ e. c .if1 .left (c .before .tag .ensures ∙ e))) ∙ k .before .before .before .loop .inv
+
+pub in-set-spec : {M : Type 1} → statement M
+in-set-spec =
+    tie.close
+    (tie.spec
+    Inv-loop
+    μ-loop
+    loop-holds
+    step-requires
+    enum-known-step
+    enum-told
+    returns
+    tag-requires
+    first-bytes-requires
+    returns-2
+    loop-less
+    loop-again)

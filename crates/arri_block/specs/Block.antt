@@ -1,0 +1,75 @@
+-- ARRI's 256 bytes in an element: document 01, "Tables inside values". Each list ends at the first item that isn't
+-- whole, so that one met before a block is nothing.
+use Prim.Native.Nat.{ℕ, _+_, _≤_}
+use mathlib.Core.Path.{_≡_}
+use mathlib.Core.List.{List, [], _∷_}
+use mathlib.Core.Bool.{false, cond}
+use lib.ListN.{take, drop}
+use lib.Dec.{leb, eqb}
+use Rattle.parts.specs.Number.{numberOf}
+use Rattle.labels.specs.Label.{sameLabel}
+use Rattle.klv.specs.declared.Klv.{Klv}
+use Rattle.klv.specs.Item.{Item}
+use Rattle.items.specs.Items.{runOf, itemsOf}
+use Rattle.arri_block.specs.declared.Block.{Block}
+use Rattle.arri_block.specs.declared.Block.the-variants.{At, Nothing}
+
+-- the lens unit set (RDD 18)
+abbrev pub lensUnitSet : List ℕ
+lensUnitSet =
+    0x06 ∷ 0x0e ∷ 0x2b ∷ 0x34 ∷ 0x02 ∷ 0x53 ∷ 0x01 ∷ 0x01 ∷ 0x0c ∷ 0x02 ∷ 0x01 ∷ 0x01 ∷ 0x01 ∷ 0x01 ∷ 0x00 ∷ 0x00 ∷ []
+
+-- an item's value
+abbrev pub valueOf : List ℕ → Item → List ℕ
+valueOf s i = take (i .klv .len) (drop (i .klv .value) s)
+
+-- a block of the bytes that start at a place
+unfoldable pub placedAt : ℕ → Block → Block
+placedAt from (At p) = At (from + p)
+placedAt from Nothing = Nothing
+
+-- the first block is the answer
+unfoldable pub orElse : Block → Block → Block
+orElse (At p) next = At p
+orElse Nothing next = next
+
+unfoldable pub firstOf : (Item → Block) → List Item → Block
+firstOf look [] = Nothing
+firstOf look (i ∷ l) = orElse (look i) (firstOf look l)
+
+-- an item's first 256 bytes, if it has them
+unfoldable pub firstBytes : Klv → Block
+firstBytes k = cond (leb 256 (k .len)) (At (k .value)) Nothing
+
+-- a set's first item 8200h gives them
+unfoldable pub inItems : List Item → Block
+inItems [] = Nothing
+inItems (i ∷ l) = cond (eqb (numberOf (i .key)) 0x8200) (firstBytes (i .klv)) (inItems l)
+
+-- tags and lengths of 2
+unfoldable pub inSet : List ℕ → Block
+inSet s = inItems (itemsOf 2 false s)
+
+-- each lens unit set of a run
+unfoldable pub inRunItem : List ℕ → Item → Block
+inRunItem s i = cond (sameLabel (i .key) lensUnitSet) (placedAt (i .klv .value) (inSet (valueOf s i))) Nothing
+
+unfoldable pub inRun : List ℕ → Block
+inRun s = firstOf (inRunItem s) (runOf s)
+
+-- in each 88h item a run is read
+unfoldable pub inElementItem : List ℕ → Item → Block
+inElementItem s i = cond (eqb (numberOf (i .key)) 0x88) (placedAt (i .klv .value) (inRun (valueOf s i))) Nothing
+
+-- an element's items have a tag of 1 and a length of 2
+unfoldable pub blockOf : List ℕ → Block
+blockOf s = firstOf (inElementItem s) (itemsOf 1 false s)
+
+-- the block's bytes, none where there is none
+unfoldable pub bytesOf : List ℕ → Block → List ℕ
+bytesOf s (At p) = take 256 (drop p s)
+bytesOf s Nothing = []
+
+-- a block ends by e
+abbrev pub Ends : Block → ℕ → Type 0
+Ends b e = (p : ℕ) → b ≡ At p → p + 256 ≤ e
