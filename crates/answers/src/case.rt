@@ -23,6 +23,14 @@ pub const PRIMER: u8 = 8;
 
 pub const ITEMS: u8 = 9;
 
+pub const DYNAMIC: u8 = 10;
+
+pub const OF_DYNAMIC: u8 = 11;
+
+pub const ALEXA: u8 = 12;
+
+pub const ARRI: u8 = 13;
+
 // A case: its word's number, its numbers, and how many bytes it has.
 pub struct Case {
     pub word: u8,
@@ -35,6 +43,32 @@ pub struct Case {
 pub enum Line {
     Is(Case),
     Nothing,
+}
+
+// The number of a word of arri/mxf.rs, 0 where it is none.
+fn arri_word(w: &[u8]) -> u8 {
+    if same(w, b"header") {
+        return HEADER;
+    }
+    if same(w, b"primer") {
+        return PRIMER;
+    }
+    if same(w, b"items") {
+        return ITEMS;
+    }
+    if same(w, b"dynamic") {
+        return DYNAMIC;
+    }
+    if same(w, b"ofdynamic") {
+        return OF_DYNAMIC;
+    }
+    if same(w, b"alexa") {
+        return ALEXA;
+    }
+    if same(w, b"arri") {
+        return ARRI;
+    }
+    0
 }
 
 // The number of a word, 0 where it is none.
@@ -57,22 +91,13 @@ fn word_of(w: &[u8]) -> u8 {
     if same(w, b"tally") {
         return TALLY;
     }
-    if same(w, b"header") {
-        return HEADER;
-    }
-    if same(w, b"primer") {
-        return PRIMER;
-    }
-    if same(w, b"items") {
-        return ITEMS;
-    }
-    0
+    arri_word(w)
 }
 
 // How many numbers a word has before its bytes.
 fn numbers(word: u8) -> u8 {
     match word {
-        WALK | ARRIVE | ITEMS => 1,
+        WALK | ARRIVE | ITEMS | ARRI => 1,
         STEP => 2,
         _ => 0,
     }
@@ -81,7 +106,7 @@ fn numbers(word: u8) -> u8 {
 // Whether a word's first number is an END, which may be `n`.
 fn ends(word: u8) -> bool {
     match word {
-        WALK | STEP => true,
+        WALK | STEP | ARRI => true,
         _ => false,
     }
 }

@@ -26,6 +26,10 @@ fn reply(c: Case, s: &[u8], out: &mut [u8], at: usize) -> usize {
         case::HEADER => answer_tables::header_of(out, at, s),
         case::PRIMER => answer_tables::primer_of(out, at, s),
         case::ITEMS => items(out, at, s, a),
+        case::DYNAMIC => answer_arri::dynamic(out, at, s),
+        case::OF_DYNAMIC => answer_arri::of_dynamic(out, at, s),
+        case::ALEXA => answer_arri::alexa(out, at, s),
+        case::ARRI => answer_arri::arri_frames(out, at, s, a),
         _ => text::put_byte(out, at, b'?'),
     }
 }

@@ -1,7 +1,6 @@
 -- `alexa35::nothing` meets its contract: both are the same record.
 use mathlib.Core.Path.{refl}
 use Rattle.alexa35.specs.Values.{none}
-use borrow.Author.Needs.{needs}
 use Rattle.alexa35.proofs.nothing.Statement.{statement}
 use Rattle.alexa35.proofs.nothing.Tie as tie
 
