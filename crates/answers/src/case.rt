@@ -15,6 +15,10 @@ pub const STEP: u8 = 4;
 
 pub const ARRIVE: u8 = 5;
 
+pub const ANC: u8 = 6;
+
+pub const SET: u8 = 7;
+
 // A case: its word's number, its numbers, and how many bytes it has.
 pub struct Case {
     pub word: u8,
@@ -45,6 +49,12 @@ fn word_of(w: &[u8]) -> u8 {
     }
     if same(w, b"arrive") {
         return ARRIVE;
+    }
+    if same(w, b"anc") {
+        return ANC;
+    }
+    if same(w, b"set") {
+        return SET;
     }
     0
 }

@@ -14,6 +14,8 @@ fn reply(c: Case, s: &[u8], out: &mut [u8], at: usize) -> usize {
         case::WALK => answer_walk::walk(out, at, s, a),
         case::STEP => answer_walk::step(out, at, s, a, b),
         case::ARRIVE => answer_walk::arrive(out, at, s, a),
+        case::ANC => answer_sony::anc(out, at, s),
+        case::SET => answer_sony::set(out, at, s),
         _ => text::put_byte(out, at, b'?'),
     }
 }
