@@ -31,6 +31,12 @@ pub const ALEXA: u8 = 12;
 
 pub const ARRI: u8 = 13;
 
+pub const ANC: u8 = 14;
+
+pub const SET: u8 = 15;
+
+pub const SONY: u8 = 16;
+
 // A case: its word's number, its numbers, and how many bytes it has.
 pub struct Case {
     pub word: u8,
@@ -71,6 +77,20 @@ fn arri_word(w: &[u8]) -> u8 {
     0
 }
 
+// The number of a word of sony/mxf.rs, 0 where it is none.
+fn sony_word(w: &[u8]) -> u8 {
+    if same(w, b"anc") {
+        return ANC;
+    }
+    if same(w, b"set") {
+        return SET;
+    }
+    if same(w, b"sony") {
+        return SONY;
+    }
+    0
+}
+
 // The number of a word, 0 where it is none.
 fn word_of(w: &[u8]) -> u8 {
     if same(w, b"ber") {
@@ -91,13 +111,17 @@ fn word_of(w: &[u8]) -> u8 {
     if same(w, b"tally") {
         return TALLY;
     }
+    let sony = sony_word(w);
+    if sony != 0 {
+        return sony;
+    }
     arri_word(w)
 }
 
 // How many numbers a word has before its bytes.
 fn numbers(word: u8) -> u8 {
     match word {
-        WALK | ARRIVE | ITEMS | ARRI => 1,
+        WALK | ARRIVE | ITEMS | ARRI | SONY => 1,
         STEP => 2,
         _ => 0,
     }
@@ -106,7 +130,7 @@ fn numbers(word: u8) -> u8 {
 // Whether a word's first number is an END, which may be `n`.
 fn ends(word: u8) -> bool {
     match word {
-        WALK | STEP | ARRI => true,
+        WALK | STEP | ARRI | SONY => true,
         _ => false,
     }
 }

@@ -30,6 +30,9 @@ fn reply(c: Case, s: &[u8], out: &mut [u8], at: usize) -> usize {
         case::OF_DYNAMIC => answer_arri::of_dynamic(out, at, s),
         case::ALEXA => answer_arri::alexa(out, at, s),
         case::ARRI => answer_arri::arri_frames(out, at, s, a),
+        case::ANC => answer_sony::anc(out, at, s),
+        case::SET => answer_sony::set(out, at, s),
+        case::SONY => answer_frames::sony_frames(out, at, s, a),
         _ => text::put_byte(out, at, b'?'),
     }
 }

@@ -2,7 +2,7 @@
 // is the KLV at 1 whose value is the 2 bytes from 18 on.
 ghost use mathlib.Core.Path.{_≡_};
 ghost use Rattle.klv.specs.Item.{item};
-ghost use Rattle.klv_text.specs.Text.{itemText};
+ghost use Rattle.klv_text.specs.Text.{itemText, bytesText};
 ghost use Rattle.klv_text.specs.Steps.{cursorText, refusedText};
 ghost use Rattle.text.specs.Write.{Put};
 use klv::Klv;
@@ -38,4 +38,14 @@ pub fn put_refused(out: &mut [u8], at: usize, n: u64) -> usize
 {
     let a = put_all(out, at, b"refused ");
     put_decimal(out, a, n)
+}
+
+// Puts bytes in hex, `-` for none.
+pub fn put_bytes(out: &mut [u8], at: usize, s: &[u8]) -> usize
+    ensures { λ r. ⌜ Put (bytesText (now (s .entry))) (now (out .entry)) at (now (out .exit)) r ⌝ }
+{
+    if s.len() == 0 {
+        return put_byte(out, at, b'-');
+    }
+    put_hex(out, at, s)
 }

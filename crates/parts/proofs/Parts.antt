@@ -50,6 +50,10 @@ module _ (s : List ℕ) (at n : ℕ) where
   pub number-part : at + n ≤ length s → numberOf (take n (drop at s)) ≡ numberAt s at n
   number-part h = rw (part-length h) (part-number n (le-refl n))
 
+  -- what `number_at` answers of at most eight bytes that are there
+  pub number-there : Bytes s → n ≤ 8 → at + n ≤ length s → numberOf (take n (drop at s)) % 2 ^ 64 ≡ numberAt s at n
+  number-there b m h = rw (number-part h, mod-eq-of-lt (number-fits s at n b m))
+
   -- what `number` answers of the part s[at..at + n], of at most eight bytes
   pub number-read : Bytes s → n ≤ 8 → at + n ≤ length s → numberOf (take (at + n - at) (drop at s)) % 2 ^ 64 ≡ numberAt s at n
-  number-read b m h = rw (add-sub-cancel-left, number-part h, mod-eq-of-lt (number-fits s at n b m))
+  number-read b m h = rw add-sub-cancel-left (number-there b m h)

@@ -40,3 +40,10 @@ pub fn number(s: &[u8]) -> u64
     }
     value
 }
+
+// The number that the n bytes at a place hold: as many of them as are there.
+pub fn number_at(s: &[u8], at: usize, n: usize) -> u64
+    ensures { λ r. ⌜ r ≡ numberOf (take n (drop at (now (s .entry)))) % 2 ^ 64 ⌝ }
+{
+    number(part(s, at, n))
+}
