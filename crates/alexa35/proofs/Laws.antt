@@ -1,6 +1,6 @@
 -- Laws of `specs/Said.antt`: what a step of an element's or a set's run leaves to be done. Assumes nothing.
 use Prim.Native.Nat.{ℕ}
-use mathlib.Core.Path.{_≡_, refl, sym, ap, _∙_}
+use mathlib.Core.Path.{_≡_, refl}
 use mathlib.Core.List.{List, [], _∷_, _++_, map}
 use mathlib.Core.Bool.{true}
 use Rattle.steps.specs.Told.{found, nothing}

@@ -222,7 +222,7 @@ fn values_on(k: Values, n: u64, v: &[u8]) -> Values
 }
 
 // The values before the first item.
-fn nothing() -> Values
+fn none() -> Values
     ensures { λ r. ⌜ r ≡ none ⌝ }
 {
     Values {
@@ -315,7 +315,7 @@ fn after_set(values: Values, set: &[u8]) -> Values
 pub fn of_alexa35(element: &[u8]) -> Frame
     ensures { λ r. ⌜ r ≡ alexaOf (now (element .entry)) ⌝ }
 {
-    let mut k = nothing();
+    let mut k = none();
     let mut at = 0;
     loop {
         let step = Run { at }.step(element);

@@ -1,20 +1,19 @@
 -- `alexa35::after_set` meets its contract. The loop's invariant: the items from the cursor on leave of the values so far what the whole set leaves.
-use Rattle.alexa35_items.specs.Kinds.{numberIn}
-use Rattle.alexa35.proofs.Laws.{setFrom, set-end, set-more}
-use Rattle.alexa35.specs.Values.{valuesOn}
-use Rattle.alexa35.specs.Said.{said, inSet, after}
-use Rattle.items.proofs.Laws.{Fit, item-fits}
-use Rattle.items.proofs.From.{run-item, run-end}
-use Rattle.items.specs.Items.{itemStep, runOf}
-use Rattle.klv.specs.Item.{item}
-use Rattle.steps.specs.Told.{found}
-use lib.ListN.{length}
-use denote.Ref.{now}
-use native.Mathlib.Omega.{arith}
-use mathlib.Core.List.{List}
+use Prim.Native.Nat.{_-_}
 use mathlib.Core.Bool.{true}
 use mathlib.Core.Path.{_≡_, refl, sym, ap, ap₂, _∙_}
-use Prim.Native.Nat.{ℕ, _-_}
+use native.Mathlib.Omega.{arith}
+use denote.Ref.{now}
+use lib.ListN.{length}
+use Rattle.steps.specs.Told.{found}
+use Rattle.klv.specs.Item.{item}
+use Rattle.items.specs.Items.{itemStep, runOf}
+use Rattle.items.proofs.Laws.{Fit, item-fits}
+use Rattle.items.proofs.From.{run-item, run-end}
+use Rattle.alexa35_items.specs.Kinds.{numberIn}
+use Rattle.alexa35.specs.Values.{valuesOn}
+use Rattle.alexa35.specs.Said.{said, inSet, after}
+use Rattle.alexa35.proofs.Laws.{setFrom, set-end, set-more}
 use borrow.Author.Needs.{needs}
 use Rattle.alexa35.proofs.after_set.Statement.{statement}
 use Rattle.alexa35.proofs.after_set.Tie as tie

@@ -1,7 +1,6 @@
 -- `arri_block::first_bytes` meets its contract: the branch is the definition's.
 use borrow.Author.Tests.{le-leb, lt-leb}
 use Rattle.arri_block.specs.Block.{firstBytes}
-use borrow.Author.Needs.{needs}
 use Rattle.arri_block.proofs.first_bytes.Statement.{statement}
 use Rattle.arri_block.proofs.first_bytes.Tie as tie
 

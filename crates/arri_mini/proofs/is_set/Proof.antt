@@ -1,7 +1,6 @@
 -- `arri_mini::is_set` meets its contract: both are the same test.
 use mathlib.Core.Path.{refl}
 use Rattle.arri_mini.specs.Dynamic.{isSet}
-use borrow.Author.Needs.{needs}
 use Rattle.arri_mini.proofs.is_set.Statement.{statement}
 use Rattle.arri_mini.proofs.is_set.Tie as tie
 

@@ -1,7 +1,6 @@
 -- `arri_mini::version_of` meets its contract: the branches are the definition's.
 use borrow.Author.Tests.{eq-eqb, ne-eqb, le-leb, lt-leb}
 use Rattle.arri_mini.specs.Dynamic.{versionOf}
-use borrow.Author.Needs.{needs}
 use Rattle.arri_mini.proofs.version_of.Statement.{statement}
 use Rattle.arri_mini.proofs.version_of.Tie as tie
 

@@ -1,7 +1,6 @@
 -- `frame::positive` meets its contract: both are the same two tests.
 use mathlib.Core.Path.{refl}
 use Rattle.frame.specs.Values.{positive}
-use borrow.Author.Needs.{needs}
 use Rattle.frame.proofs.positive.Statement.{statement}
 use Rattle.frame.proofs.positive.Tie as tie
 
