@@ -6,4 +6,3 @@ pub mod Constants
 pub mod Whole
 pub mod Narrows
 pub mod Exact
-pub mod Starred

@@ -6,7 +6,7 @@
 // one that isn't finite is stored as nothing"; "Rounding casts: worked out on the float's bits".
 //
 // Each contract equates the result with a definition of specs/, in the operations of IEEE 754 as `lib.Ieee` has them, at every input: zeros keep their sign, and
-// NaNs and infinities are answered as Rust answers them. `proofs/Starred.antt` has document 01's numbers.
+// NaNs and infinities are answered as Rust answers them.
 //
 //     Rust                                                  here
 //     v as f32                                              nearest_f32(v)

@@ -41,7 +41,7 @@ module _ (step : ℕ → Told Item) (e : ℕ) (moves : Moves step e) where
         ends = λ p l. let x = ends-so p (step p) refl (none p) l in (x .0, s p ∙ x .1);
       }
 
-never-refuses : (next : Item → ℕ) (s : List ℕ) (after : Walked → Told Item) → Says next s after → (w : Walked) (n q : ℕ) → after w ≡ refused n q → ⊥
+pub never-refuses : (next : Item → ℕ) (s : List ℕ) (after : Walked → Told Item) → Says next s after → (w : Walked) (n q : ℕ) → after w ≡ refused n q → ⊥
 never-refuses next s after says (Found k) n q x = let y = says .says-found k in let z : _≡_ {A = ℕ} 0 1 = cc in omega arith
 never-refuses next s after says (Stopped p) n q x = let y = says .says-stopped p in let z : _≡_ {A = ℕ} 0 1 = cc in omega arith
 never-refuses next s after says (Lost p) n q x = let y = says .says-lost p .1 in let z : _≡_ {A = ℕ} 0 1 = cc in omega arith

@@ -1,5 +1,5 @@
 -- The starred numbers of document 01, "Numbers on both sides", together.
-use Prim.Native.Nat.{ℕ, _-_, _^_}
+use Prim.Native.Nat.{ℕ, _-_, _^_, _<_}
 use mathlib.Core.Path.{_≡_}
 use mathlib.Core.List.{List, [], _∷_, _++_}
 use lib.ListN.{length, replicate}
@@ -11,6 +11,9 @@ use Rattle.walk.specs.declared.Turn.the-variants.{Search}
 use Rattle.walk.specs.Rules.{rules}
 use Rattle.walk.specs.Walk.{arrivingStep}
 use Rattle.records.specs.Records.{finished}
+use Rattle.floats.specs.Rounding.{nearestF32}
+use Rattle.floats.specs.Quotients.{thousandthsF32, metresOfMillimetres}
+use Rattle.floats.specs.Near.{IsWhole, Near}
 
 -- a key: the label of document 01's listing
 abbrev pub key : List ℕ
@@ -41,5 +44,15 @@ Arriving =
     × (rules 17 (key ++ (0x01 ∷ [])) 17 0 ≡ Search 17)
     × (arrivingStep 17 (key ++ (0x01 ∷ [])) 0 ≡ nothing 17)
 
+-- u32 to f32: 16,777,217 to 16,777,216; 16,777,219 to 16,777,220; within 128 for every u32. 1000 thousandths is 1.0, divided in f32 or
+-- multiplied in f64
+abbrev pub Floats : Type 0
+Floats =
+    ((v : ℕ) → v < 2 ^ 32 → Near 128 (nearestF32 v) v)
+    × IsWhole (nearestF32 16777217) 16777216
+    × IsWhole (nearestF32 16777219) 16777220
+    × IsWhole (thousandthsF32 1000) 1
+    × IsWhole (metresOfMillimetres 1000) 1
+
 abbrev pub Starred : Type 0
-Starred = Lengths × Finished × Arriving
+Starred = Lengths × Finished × Arriving × Floats

@@ -1,6 +1,6 @@
 -- The steps' answers from where the turns lead, and that two answers which say the same are the same. Assumes nothing.
 use Prim.Native.Nat.{ℕ, _≤_, _<_, max}
-use mathlib.Core.Path.{_≡_, refl}
+use mathlib.Core.Path.{_≡_, refl, sym, ap, _∙_}
 use mathlib.Core.List.{List}
 use native.Mathlib.Omega.{arith}
 use borrow.Author.Tests.{le-ltb, lt-ltb}
@@ -8,7 +8,8 @@ use lib.ListN.{length}
 use Rattle.steps.specs.Told.{Told, found, nothing, refused}
 use Rattle.search.specs.Search.{waitFrom}
 use Rattle.klv.specs.declared.Klv.{Klv}
-use Rattle.klv.specs.Item.{item, past}
+use Rattle.klv.specs.Item.{Item, item, past}
+use Rattle.walk.specs.declared.Walked.{Walked}
 use Rattle.walk.specs.declared.Walked.the-variants.{Found, Stopped, Lost}
 use Rattle.walk.specs.declared.Step.{Step}
 use Rattle.walk.specs.declared.Step.the-variants as step
@@ -38,6 +39,38 @@ module _ (s : List ℕ) (e p : ℕ) where
     pub finished-lost : (q : ℕ) → walked 0 s e p ≡ Lost q → finishedStep s e p ≡ nothing (max e q)
     unfolding finishedStep finishedBy finishedAfter
     finished-lost q w = simp (le-ltb _ _ h, w)
+
+    -- where walking goes on is another's to say: the step is the same but for that
+    pub found-by : (next : Item → ℕ) (i : Item) (q : ℕ) → finishedStep s e p ≡ found i q → (finishedBy next s e p ≡ found i (next i)) × (q ≡ past (i .klv))
+    unfolding finishedBy finishedAfter
+    found-by next i q x = go (walked 0 s e p) refl
+      where
+        go : (w : Walked) → walked 0 s e p ≡ w → (finishedAfter next s e (walked 0 s e p) ≡ found i (next i)) × (q ≡ past (i .klv))
+        go (Found k) w =
+            let y = finished-found k w in
+            let z : item 16 s k ≡ i = cc in
+            let v : past k ≡ q = cc in
+            (rw (w, z), sym v ∙ ap (λ (j : Item). past (j .klv)) z)
+        go (Stopped r) w = let y = finished-stopped r w in absurd (let z : _≡_ {A = ℕ} 0 1 = cc in omega arith)
+        go (Lost r) w = let y = finished-lost r w in absurd (let z : _≡_ {A = ℕ} 0 1 = cc in omega arith)
+
+    pub nothing-by : (next : Item → ℕ) (q : ℕ) → finishedStep s e p ≡ nothing q → finishedBy next s e p ≡ nothing q
+    unfolding finishedBy finishedAfter
+    nothing-by next q x = go (walked 0 s e p) refl
+      where
+        go : (w : Walked) → walked 0 s e p ≡ w → finishedAfter next s e (walked 0 s e p) ≡ nothing q
+        go (Found k) w = let y = finished-found k w in absurd (let z : _≡_ {A = ℕ} 0 1 = cc in omega arith)
+        go (Stopped r) w = let y = finished-stopped r w in rw w (sym y ∙ x)
+        go (Lost r) w = let y = finished-lost r w in rw w (sym y ∙ x)
+
+    -- within the buffer nothing is refused
+    pub not-refused : (n q : ℕ) → finishedStep s e p ≡ refused n q → ⊥
+    not-refused n q x = go (walked 0 s e p) refl
+      where
+        go : (w : Walked) → walked 0 s e p ≡ w → ⊥
+        go (Found k) w = let y = finished-found k w in let z : _≡_ {A = ℕ} 0 1 = cc in omega arith
+        go (Stopped r) w = let y = finished-stopped r w in let z : _≡_ {A = ℕ} 0 1 = cc in omega arith
+        go (Lost r) w = let y = finished-lost r w in let z : _≡_ {A = ℕ} 0 1 = cc in omega arith
 
 module _ (limit : ℕ) (a : List ℕ) (p : ℕ) where
   pub arriving-refused : limit < length a → arrivingStep limit a p ≡ refused 2 p

@@ -1,0 +1,68 @@
+// The answers to `dynamic HEX`, `ofdynamic HEX`, `alexa HEX` and `arri END HEX`: docs/CASES.md.
+mod values;
+
+use arri::Values;
+use arri_block::Block;
+use frames::Arri;
+use frames::ArriStep;
+use text::put_byte;
+use text::put_decimal;
+use values::put_values;
+
+// Puts the place of ARRI's 256 bytes in an element, or `-`.
+pub fn dynamic(out: &mut [u8], at: usize, s: &[u8]) -> usize {
+    let b = arri_block::find(s);
+    let Block::At(p) = b else {
+        return put_byte(out, at, b'-');
+    };
+    put_decimal(out, at, p as u64)
+}
+
+// Puts the values of an ALEXA Mini's 256 bytes; other counts of bytes are no case.
+pub fn of_dynamic(out: &mut [u8], at: usize, s: &[u8]) -> usize {
+    if s.len() != 256 {
+        return put_byte(out, at, b'?');
+    }
+    put_values(out, at, arri_mini::of_dynamic(s))
+}
+
+// Puts the values of an ALEXA 35's element.
+pub fn alexa(out: &mut [u8], at: usize, s: &[u8]) -> usize {
+    put_values(out, at, alexa35::of_alexa35(s))
+}
+
+// Puts a frame's values, or `-`.
+fn put_values_of(out: &mut [u8], at: usize, s: &[u8], f: frames::Frame) -> usize {
+    let v = arri::values_of(s, f);
+    match v {
+        Values::Are(x) => put_values(out, at, x),
+        Values::Nothing => put_byte(out, at, b'-'),
+    }
+}
+
+// Puts a frame: `number,p,v,length,mark,values;`.
+fn put_frame(out: &mut [u8], at: usize, s: &[u8], f: frames::Frame) -> usize {
+    let a = frame_text::put_place(out, at, f);
+    let b = put_values_of(out, a, s, f);
+    put_byte(out, b, b';')
+}
+
+// Puts the frames of ARRI's walk over s.
+pub fn arri_frames(out: &mut [u8], at: usize, s: &[u8], end: usize) -> usize {
+    if s.len() < end {
+        return klv_text::put_refused(out, at, 1);
+    }
+    let mut r = at;
+    let mut walk = Arri { at: 0, number: 0 };
+    let mut left = end;
+    while left > 0 {
+        left -= 1;
+        let step = walk.step(s, end);
+        let ArriStep::Frame(f, next) = step else {
+            return r;
+        };
+        r = put_frame(out, r, s, f);
+        walk = next;
+    }
+    r
+}

@@ -1,0 +1,46 @@
+// The answer to a line, by its word.
+use crate::case;
+use crate::case::Case;
+use crate::case::Line;
+
+// Puts local items, with lengths of two bytes for 0 and BER for 1.
+fn items(out: &mut [u8], at: usize, s: &[u8], coding: usize) -> usize {
+    if 1 < coding {
+        return text::put_byte(out, at, b'?');
+    }
+    answer_tables::items_of(out, at, s, coding == 1)
+}
+
+// Puts the answer to a case over its bytes.
+fn reply(c: Case, s: &[u8], out: &mut [u8], at: usize) -> usize {
+    let word = c.word;
+    let a = c.a as usize;
+    let b = c.b as usize;
+    match word {
+        case::BER => answer_klvs::ber(out, at, s),
+        case::KLVS => answer_klvs::klvs(out, at, s),
+        case::WALK => answer_walk::walk(out, at, s, a),
+        case::STEP => answer_walk::step(out, at, s, a, b),
+        case::ARRIVE => answer_walk::arrive(out, at, s, a),
+        case::TALLY => answer_tally::tally(out, at, s),
+        case::HEADER => answer_tables::header_of(out, at, s),
+        case::PRIMER => answer_tables::primer_of(out, at, s),
+        case::ITEMS => items(out, at, s, a),
+        case::DYNAMIC => answer_arri::dynamic(out, at, s),
+        case::OF_DYNAMIC => answer_arri::of_dynamic(out, at, s),
+        case::ALEXA => answer_arri::alexa(out, at, s),
+        case::ARRI => answer_arri::arri_frames(out, at, s, a),
+        _ => text::put_byte(out, at, b'?'),
+    }
+}
+
+// Puts the answer to a line; half as many bytes as the longest line has characters are room for its own.
+pub fn answer(line: &[u8], out: &mut [u8], at: usize) -> usize {
+    let mut bytes = [0u8; 32768];
+    let l = case::read(line, &mut bytes);
+    let Line::Is(c) = l else {
+        return text::put_byte(out, at, b'?');
+    };
+    let n = c.n;
+    reply(c, parts::part(&bytes, 0, n), out, at)
+}

@@ -1,0 +1,4 @@
+pub mod Laws
+pub mod Seeks
+pub mod Answers
+pub mod Lists

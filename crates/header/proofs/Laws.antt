@@ -1,0 +1,46 @@
+-- Laws of `specs/Header.antt`. Assumes nothing.
+use Prim.Native.Nat.{ℕ, _-_, _≤_, _<_, min}
+use mathlib.Core.Path.{_≡_}
+use mathlib.Core.List.{List}
+use mathlib.Core.Bool.{true, false}
+use native.Mathlib.Omega.{arith}
+use borrow.Author.Tests.{le-leb, lt-leb, eq-eqb, ne-eqb}
+use lib.ListN.{length, getD, List·getD-eq-default}
+use Rattle.steps.specs.Told.{found, nothing}
+use Rattle.labels.specs.Label.{beginning}
+use Rattle.klv.specs.Item.{Item}
+use Rattle.items.specs.Items.{runStep}
+use Rattle.header.specs.declared.Header.the-variants.{Part, Nothing}
+use Rattle.header.specs.Header.{partitionPrefix, isHeader, sizeOf, afterPack, headerOf}
+
+module _ (s : List ℕ) where
+  -- a byte that is missing is not 2
+  pub header-short : length s < 14 → isHeader s ≡ false
+  unfolding isHeader
+  header-short h = simp (List·getD-eq-default s 0 {n = 13} (omega arith))
+
+  pub header-other : (getD s 13 0 ≡ 2 → ⊥) → isHeader s ≡ false
+  unfolding isHeader
+  header-other n = simp (ne-eqb _ _ n)
+
+  pub header-two : getD s 13 0 ≡ 2 → isHeader s ≡ beginning partitionPrefix s
+  unfolding isHeader
+  header-two e = simp (eq-eqb _ _ e)
+
+  pub part-none : isHeader s ≡ false → headerOf s ≡ Nothing
+  unfolding headerOf
+  part-none h = simp h
+
+  module _ (h : isHeader s ≡ true) where
+    pub part-no-pack : (p : ℕ) → runStep s 0 ≡ nothing p → headerOf s ≡ Nothing
+    unfolding headerOf afterPack
+    part-no-pack p r = simp (h, r)
+
+    module _ (i : Item) (next : ℕ) (r : runStep s 0 ≡ found i next) where
+      pub part-small : i .klv .len < 40 → headerOf s ≡ Nothing
+      unfolding headerOf afterPack
+      part-small m = simp (h, r, lt-leb _ _ m)
+
+      pub part-whole : 40 ≤ i .klv .len → headerOf s ≡ Part (record { at = next; len = min (sizeOf s (i .klv .value)) (length s - next) })
+      unfolding headerOf afterPack
+      part-whole m = simp (h, r, le-leb _ _ m)

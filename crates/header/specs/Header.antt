@@ -1,0 +1,44 @@
+-- The header part: document 01, "Tables inside values".
+use Prim.Native.Nat.{ℕ, _+_, _-_, min}
+use mathlib.Core.List.{List, [], _∷_}
+use mathlib.Core.Bool.{Bool, cond, _&&_}
+use lib.ListN.{length, getD, take, drop}
+use lib.Dec.{leb, eqb}
+use Rattle.steps.specs.Told.{Told, found, nothing, refused}
+use Rattle.parts.specs.Number.{numberAt}
+use Rattle.labels.specs.Label.{beginning}
+use Rattle.klv.specs.Item.{Item}
+use Rattle.items.specs.Items.{runStep}
+use Rattle.header.specs.declared.Header.{Header}
+use Rattle.header.specs.declared.Header.the-variants.{Part, Nothing}
+
+-- PARTITION_PREFIX
+abbrev pub partitionPrefix : List ℕ
+partitionPrefix = 0x06 ∷ 0x0e ∷ 0x2b ∷ 0x34 ∷ 0x02 ∷ 0x05 ∷ 0x01 ∷ 0x01 ∷ 0x0d ∷ 0x01 ∷ 0x02 ∷ 0x01 ∷ 0x01 ∷ []
+
+-- label begins with its 13 bytes, byte 13 is 2
+unfoldable pub isHeader : List ℕ → Bool
+isHeader s = eqb (getD s 13 0) 2 && beginning partitionPrefix s
+
+-- (number at 32..40) + (number at 4..8) of the pack at v
+unfoldable pub sizeOf : List ℕ → ℕ → ℕ
+sizeOf s v = numberAt s (v + 32) 8 + numberAt s (v + 4) 4
+
+-- pack whole and at least 40 bytes: the part after it, cut to the buffer
+unfoldable pub afterPack : List ℕ → Told Item → Header
+afterPack s (found i next) =
+    cond (leb 40 (i .klv .len)) (Part (record { at = next; len = min (sizeOf s (i .klv .value)) (length s - next) })) Nothing
+afterPack s (nothing p) = Nothing
+afterPack s (refused n p) = Nothing
+
+-- the pack is the KLV at 0
+unfoldable pub headerOf : List ℕ → Header
+headerOf s = cond (isHeader s) (afterPack s (runStep s 0)) Nothing
+
+-- its bytes
+unfoldable pub bytesOf : List ℕ → Header → List ℕ
+bytesOf s (Part p) = take (p .len) (drop (p .at) s)
+bytesOf s Nothing = []
+
+abbrev pub headerBytes : List ℕ → List ℕ
+headerBytes s = bytesOf s (headerOf s)

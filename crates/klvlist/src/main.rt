@@ -1,0 +1,45 @@
+// Lists the finished walk over standard input, and its tally: document 01, "Tally and listing". Above 65,536 bytes it prints
+// only `too long`.
+ghost use mathlib.Core.Path.{_≡_};
+ghost use Prim.Native.Nat.{_≤_};
+ghost use lib.ListN.{length, take};
+ghost use Rattle.io.specs.Counts.{Counts};
+ghost use Rattle.listing.specs.Listing.{listingOf};
+
+// Room for the listing of 65,536 bytes.
+fn room() -> [u8; 393216]
+    ensures { λ r. ⌜ 393216 ≡ length r ⌝ }
+{
+    [0; 393216]
+}
+
+// Puts the whole listing of s at the start of out, and answers how long it is: what the program writes.
+fn listed(s: &[u8], out: &mut [u8]) -> usize
+    requires { ⌜ length (now s) ≤ 65536 ⌝ }
+    requires { ⌜ 393216 ≤ length (now out) ⌝ }
+    ensures { λ r. ⌜ take r (now (out .exit)) ≡ listingOf (now (s .entry)) ⌝ }
+    ensures { λ r. ⌜ Counts r (now (out .exit)) ⌝ }
+{
+    listing::list(out, s)
+}
+
+// Writes the listing of s.
+fn show(s: &[u8])
+    requires { ⌜ length (now s) ≤ 65536 ⌝ }
+{
+    let mut out = room();
+    let n = listed(s, &mut out);
+    io::write_all(1, &out[..n]);
+}
+
+fn main() {
+    let mut buf = io::large_buffer();
+    let n = io::read_full(0, &mut buf);
+    let mut one = [0u8; 1];
+    let more = io::read_full(0, &mut one);
+    if more > 0 {
+        io::write_all(1, b"too long\n");
+        return;
+    }
+    show(&buf[..n]);
+}

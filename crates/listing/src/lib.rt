@@ -1,0 +1,112 @@
+// The listing's text: document 01, "Tally and listing". A line for each record of the finished walk, their count, a line for
+// each group of the tally, and how many are other.
+ghost use mathlib.Core.Path.{_≡_};
+ghost use lib.ListN.{length};
+ghost use Rattle.text.specs.Write.{Put};
+ghost use Rattle.records.specs.Records.{finished};
+ghost use Rattle.tally.specs.Groups.{groupsOf};
+ghost use Rattle.listing.specs.Listing.{recordLines, countLine, groupLine, groupLines, otherLine, tallyLines, listingOf};
+use klv_text::put_klv;
+use text::put_all;
+use text::put_byte;
+use text::put_decimal;
+use text::put_hex;
+use walk::Cursor;
+use walk::Step;
+
+// How many records there are, and the place after their lines.
+struct Lines {
+    records: usize,
+    at: usize,
+}
+
+// Puts a line for each record of the finished walk over s.
+fn put_records(out: &mut [u8], at: usize, s: &[u8]) -> Lines
+    ensures { λ r. ⌜ r .records ≡ length (finished (now (s .entry))) ⌝ }
+    ensures { λ r. ⌜ Put (recordLines (finished (now (s .entry)))) (now (out .entry)) at (now (out .exit)) (r .at) ⌝ }
+{
+    let mut records = 0;
+    let mut p = at;
+    let mut from = 0;
+    loop {
+        let c = Cursor { at: from };
+        let r = c.step(s, s.len());
+        match r {
+            Step::Over(_) => return Lines { records, at: p },
+            Step::Refused => return Lines { records, at: p },
+            Step::Record(k, next) => {
+                let a = put_klv(out, p, s, k, b' ');
+                p = put_byte(out, a, b'\n');
+                records += 1;
+                from = next.at;
+            }
+        }
+    }
+}
+
+// Puts `records N`.
+fn put_count(out: &mut [u8], at: usize, n: usize) -> usize
+    ensures { λ r. ⌜ Put (countLine n) (now (out .entry)) at (now (out .exit)) r ⌝ }
+{
+    let a = put_all(out, at, b"records ");
+    let b = put_decimal(out, a, n as u64);
+    put_byte(out, b, b'\n')
+}
+
+// Puts `label HEX N`.
+fn put_group(out: &mut [u8], at: usize, s: &[u8], first: usize, n: usize) -> usize
+    ensures { λ r. ⌜ Put (groupLine (now (s .entry)) first n) (now (out .entry)) at (now (out .exit)) r ⌝ }
+{
+    let a = put_all(out, at, b"label ");
+    let b = put_hex(out, a, labels::label(s, first));
+    let c = put_byte(out, b, b' ');
+    let d = put_decimal(out, c, n as u64);
+    put_byte(out, d, b'\n')
+}
+
+// Puts a line for each group.
+fn put_groups(out: &mut [u8], at: usize, s: &[u8], firsts: &[usize], counts: &[usize]) -> usize
+    requires { ⌜ length (now firsts) ≡ length (now counts) ⌝ }
+    ensures { λ r. ⌜ Put (groupLines (now (s .entry)) (now (firsts .entry)) (now (counts .entry))) (now (out .entry)) at (now (out .exit)) r ⌝ }
+{
+    let mut p = at;
+    let mut j = 0;
+    while j < firsts.len() {
+        p = put_group(out, p, s, firsts[j], counts[j]);
+        j += 1;
+    }
+    p
+}
+
+// Puts `other N`, where N is above 0.
+fn put_other(out: &mut [u8], at: usize, n: usize) -> usize
+    ensures { λ r. ⌜ Put (otherLine n) (now (out .entry)) at (now (out .exit)) r ⌝ }
+{
+    if n == 0 {
+        return at;
+    }
+    let a = put_all(out, at, b"other ");
+    let b = put_decimal(out, a, n as u64);
+    put_byte(out, b, b'\n')
+}
+
+// Puts the tally's lines.
+fn put_tally(out: &mut [u8], at: usize, s: &[u8]) -> usize
+    ensures { λ r. ⌜ Put (tallyLines (now (s .entry)) (groupsOf (now (s .entry)))) (now (out .entry)) at (now (out .exit)) r ⌝ }
+{
+    let mut firsts = [0usize; 64];
+    let mut counts = [0usize; 64];
+    let t = tally::count_all(s, &mut firsts, &mut counts);
+    let n = t.groups;
+    let a = put_groups(out, at, s, &firsts[..n], &counts[..n]);
+    put_other(out, a, t.other)
+}
+
+// Puts the whole listing of s at the start of out, as much of it as there is room for.
+pub fn list(out: &mut [u8], s: &[u8]) -> usize
+    ensures { λ r. ⌜ Put (listingOf (now (s .entry))) (now (out .entry)) 0 (now (out .exit)) r ⌝ }
+{
+    let l = put_records(out, 0, s);
+    let a = put_count(out, l.at, l.records);
+    put_tally(out, a, s)
+}

@@ -1,0 +1,4 @@
+pub mod Grouped
+pub mod Steps
+pub mod Laws
+pub mod Lent

@@ -1,0 +1,24 @@
+-- `text::put_byte` puts its byte: a store within the room, and none past it.
+use native.Mathlib.Omega.{arith}
+use Rattle.text.proofs.Putting.{put-full}
+use borrow.Author.Needs.{needs}
+use Rattle.text.proofs.put_byte.Statement.{statement}
+use Rattle.text.proofs.put_byte.Tie as tie
+
+slice-write-out : tie.Need-slice-write-out
+slice-write-out c = search needs
+
+add-result : tie.Need-add-result
+add-result c = search needs
+
+same-length : tie.Need-same-length
+same-length c = search needs
+
+returns : tie.Need-returns
+returns c = search needs
+
+returns-2 : tie.Need-returns-2
+returns-2 c = put-full _ _ _ (omega arith)
+
+pub put-byte-spec : {M : Type 1} → statement M
+put-byte-spec = tie.close (tie.spec slice-write-out add-result same-length returns returns-2)

@@ -1,0 +1,84 @@
+//! Cases of each word, drawn from a seed: the case at an index is the same wherever and whenever it is drawn.
+
+mod arri;
+mod canon;
+pub mod random;
+pub mod sketch;
+mod sony;
+mod tables;
+mod walk;
+
+use random::Random;
+
+use crate::line::{Case, LONGEST, WORDS};
+
+/// The line of the case of a word at a seed and an index.
+pub fn case(word: &str, seed: u64, index: u64) -> String {
+    let mut random = Random::of(word, seed, index);
+    let (numbers, bytes) = drawn(word, &mut random);
+    let word = WORDS.iter().find(|(name, _)| *name == word).expect("a word").0;
+    let line = with_n(&mut random, Case { word, numbers, bytes });
+    assert!(line.len() <= LONGEST, "a line that is too long");
+    line
+}
+
+/// The numbers and bytes of a case.
+fn drawn(word: &str, random: &mut Random) -> (Vec<u64>, Vec<u8>) {
+    match word {
+        "ber" => (vec![], walk::ber(random)),
+        "walk" => walk::walk(random),
+        "step" => walk::step(random),
+        "klvs" => (vec![], walk::klvs(random)),
+        "arrive" => walk::arrive(random),
+        "tally" => (vec![], walk::tally(random)),
+        "header" => (vec![], tables::header(random)),
+        "primer" => (vec![], tables::primer(random)),
+        "items" => tables::items(random),
+        "dynamic" => (vec![], arri::dynamic(random)),
+        "ofdynamic" => (vec![], arri::block(random)),
+        "alexa" => (vec![], arri::alexa(random)),
+        "arri" => arri::arri(random),
+        "anc" => (vec![], sony::anc(random)),
+        "set" => (vec![], sony::set(random)),
+        "sony" => sony::sony(random),
+        "packs" => (vec![], canon::packs(random)),
+        "package" => (vec![], canon::package(random)),
+        "sequence" => (vec![], canon::sequence(random)),
+        "canon" => canon::canon(random),
+        _ => panic!("no cases of {word}"),
+    }
+}
+
+/// The case's line, now and then with `n` for the end.
+fn with_n(random: &mut Random, case: Case) -> String {
+    let line = case.line();
+    let all = format!(" {} ", case.bytes.len());
+    let ends = case.fields().first() == Some(&crate::line::Field::End);
+    if ends && case.numbers[0] == case.bytes.len() as u64 && random.percent(70) { line.replacen(&all, " n ", 1) } else { line }
+}
+
+#[cfg(test)]
+mod tests {
+    use super::*;
+    use crate::line::parse;
+
+    #[test]
+    fn the_same_seed_gives_the_same_cases() {
+        for (word, _) in WORDS {
+            for index in 0..200 {
+                assert_eq!(case(word, 7, index), case(word, 7, index));
+            }
+            assert_ne!((0..50).map(|i| case(word, 7, i)).collect::<Vec<_>>(), (0..50).map(|i| case(word, 8, i)).collect::<Vec<_>>());
+        }
+    }
+
+    #[test]
+    fn every_line_is_a_case() {
+        for (word, _) in WORDS {
+            for index in 0..5000 {
+                let line = case(word, 3, index);
+                assert!(parse(&line).is_some(), "{line}");
+            }
+        }
+    }
+}

@@ -1,0 +1,117 @@
+//! The oracle's commands.
+
+use std::io::{BufRead, BufWriter, Error, Result, Write, stdin, stdout};
+use std::path::Path;
+use std::process::exit;
+
+use oracle::compare::{Port, report, report_lines};
+use oracle::line::WORDS;
+use oracle::{answer, arriving, cases, files, known, record};
+
+const USAGE: &str = "\
+oracle answer                                    the Rust's answer for each line of the standard input
+oracle expected                                  the same, with document 01's where a difference is known
+oracle cases WORDS COUNT SEED                    cases of each word
+oracle compare WORDS COUNT SEED --answers CMD    the port's answers beside the expected ones
+oracle files WORDS FOLDER --answers CMD          the same over the real files of a folder
+oracle record WORDS COUNT SEED FOLDER            a sample, as FOLDER/stdin and FOLDER/stdout
+oracle arriving COUNT SEED                       the arriving walk beside all short extensions";
+
+fn main() {
+    let args: Vec<String> = std::env::args().skip(1).collect();
+    let args: Vec<&str> = args.iter().map(String::as_str).collect();
+    let done = match args[..] {
+        ["answer"] => answer_lines(answer::answer),
+        ["expected"] => answer_lines(|line| known::expected(line).0),
+        ["cases", words, count, seed] => print_cases(words, number(count), number(seed)),
+        ["compare", words, count, seed, "--answers", command] => compare(words, number(count), number(seed), command),
+        ["files", words, folder, "--answers", command] => compare_files(words, folder, command),
+        ["record", words, count, seed, folder] => write_sample(words, number(count), number(seed), folder),
+        ["arriving", count, seed] => arriving_beside_extensions(number(count), number(seed)),
+        _ => usage(),
+    };
+    match done {
+        Ok(true) => {}
+        Ok(false) => exit(1),
+        Err(error) => {
+            eprintln!("{error}");
+            exit(2);
+        }
+    }
+}
+
+fn usage() -> ! {
+    eprintln!("{USAGE}");
+    exit(2)
+}
+
+/// The number that an argument is.
+fn number(text: &str) -> u64 {
+    text.parse().unwrap_or_else(|_| usage())
+}
+
+fn answer_lines(answer: impl Fn(&str) -> String) -> Result<bool> {
+    let mut out = BufWriter::new(stdout().lock());
+    for line in stdin().lock().split(b'\n') {
+        writeln!(out, "{}", answer(&String::from_utf8_lossy(&line?)))?;
+    }
+    out.flush().map(|()| true)
+}
+
+fn print_cases(words: &str, count: u64, seed: u64) -> Result<bool> {
+    let mut out = BufWriter::new(stdout().lock());
+    for word in words_of(words)? {
+        for index in 0..count {
+            writeln!(out, "{}", cases::case(word, seed, index))?;
+        }
+    }
+    out.flush().map(|()| true)
+}
+
+fn compare(words: &str, count: u64, seed: u64, command: &str) -> Result<bool> {
+    let port = port(command);
+    let mut same = true;
+    for word in words_of(words)? {
+        same &= report(&port, word, count, seed)?;
+    }
+    Ok(same)
+}
+
+fn compare_files(words: &str, folder: &str, command: &str) -> Result<bool> {
+    report_lines(&port(command), &files::cases(Path::new(folder), &words_of(words)?)?)
+}
+
+/// The words that a list names, with commas or spaces between them.
+fn words_of(list: &str) -> Result<Vec<&'static str>> {
+    let word = |name: &str| WORDS.iter().find(|(word, _)| *word == name).map(|(word, _)| *word);
+    let words = list.split([',', ' ']).map(|name| word(name).ok_or_else(|| Error::other(format!("{name} is no word"))));
+    words.collect()
+}
+
+/// The port's program that a command starts.
+fn port(command: &str) -> Port {
+    let words: Vec<String> = command.split_whitespace().map(String::from).collect();
+    if words.is_empty() {
+        usage();
+    }
+    Port(words)
+}
+
+fn write_sample(words: &str, count: u64, seed: u64, folder: &str) -> Result<bool> {
+    let (cases, answers) = record::sample(&words_of(words)?, count as usize, seed);
+    std::fs::write(Path::new(folder).join("stdin"), &cases)?;
+    std::fs::write(Path::new(folder).join("stdout"), &answers)?;
+    println!("{} cases, {} bytes of cases, {} bytes of answers", cases.lines().count(), cases.len(), answers.len());
+    Ok(true)
+}
+
+fn arriving_beside_extensions(count: u64, seed: u64) -> Result<bool> {
+    match arriving::check(count, seed) {
+        Ok(extensions) => println!("arriving {count} {seed} no difference, {extensions} extensions"),
+        Err(difference) => {
+            println!("{difference}");
+            return Ok(false);
+        }
+    }
+    Ok(true)
+}
