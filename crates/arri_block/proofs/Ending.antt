@@ -12,12 +12,12 @@ use Rattle.parts.specs.Number.{numberOf}
 use Rattle.parts.proofs.Parts.{part-length}
 use Rattle.labels.specs.Label.{sameLabel}
 use Rattle.klv.specs.declared.Klv.{Klv}
-use Rattle.klv.specs.Item.{Item}
+use Rattle.klv.specs.Item.{Item, valueOf}
 use Rattle.items.specs.Items.{itemStep, runOf, itemsOf}
 use Rattle.items.proofs.Laws.{item-fits}
 use Rattle.arri_block.specs.declared.Block.{Block}
 use Rattle.arri_block.specs.declared.Block.the-variants.{At, Nothing}
-use Rattle.arri_block.specs.Block.{lensUnitSet, valueOf, placedAt, orElse, firstOf, firstBytes, inItems, inSet, inRunItem, inRun, inElementItem, blockOf, bytesOf, Ends}
+use Rattle.arri_block.specs.Block.{lensUnitSet, placedAt, orElse, firstOf, firstBytes, inItems, inSet, inRunItem, inRun, inElementItem, blockOf, bytesOf, Ends}
 
 no-block : {e : ℕ} → Ends Nothing e
 no-block p z = absurd (let y : _≡_ {A = ℕ} 0 1 = cc in omega arith)
