@@ -1,9 +1,8 @@
 -- The values that are gathered item by item are those of the table, each by the items of its own number. Assumes nothing.
 use Prim.Native.Nat.{ℕ}
-use mathlib.Core.Path.{_≡_, refl, sym, ap, _∙_}
+use mathlib.Core.Path.{_≡_, refl, ap}
 use mathlib.Core.List.{List, [], _∷_}
 use mathlib.Core.Bool.{true, false}
-use Rattle.frame.specs.declared.Frame.{Frame}
 use Rattle.alexa35_items.specs.Kinds.{floatIn, focalLengthIn, effectiveIn, tStopIn, distanceIn, rateIn, exposureIn, wholeIn, lowIn, tintIn, densityIn}
 use Rattle.alexa35.specs.declared.Values.{Values}
 use Rattle.alexa35.specs.Said.{Said, saidIn, after, erases, keeps}

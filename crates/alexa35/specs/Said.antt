@@ -2,9 +2,8 @@
 use Prim.Native.Nat.{ℕ}
 use mathlib.Core.List.{List, [], _∷_, _++_, map}
 use mathlib.Core.Bool.{cond}
-use lib.ListN.{take, drop}
 use lib.Dec.{eqb}
-use Rattle.klv.specs.Item.{Item}
+use Rattle.klv.specs.Item.{Item, valueOf}
 use Rattle.items.specs.Items.{runOf}
 use Rattle.alexa35_items.specs.Kinds.{numberIn}
 
@@ -15,10 +14,6 @@ pub record Said : Type 0 where
 
 abbrev pub said : ℕ → List ℕ → Said
 said number value = record { number = number; value = value }
-
--- the value of a run's KLV
-abbrev pub valueOf : List ℕ → Item → List ℕ
-valueOf s i = take (i .klv .len) (drop (i .klv .value) s)
 
 -- a set is a run of items
 abbrev pub itemOf : List ℕ → Item → Said

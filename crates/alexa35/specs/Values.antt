@@ -1,6 +1,8 @@
 -- The values so far, set by set, and what an item does to them.
 use mathlib.Core.Bool.{true, false}
 use Rattle.frame.specs.Values.{tiltRollOf}
+use Rattle.frame.specs.declared.Encoders.{Encoders}
+use Rattle.frame.specs.declared.Frame.{Frame}
 use Rattle.frame.specs.declared.Single.the-variants as single
 use Rattle.frame.specs.declared.Double.the-variants as double
 use Rattle.frame.specs.declared.Whole32.the-variants as whole32
@@ -8,8 +10,6 @@ use Rattle.frame.specs.declared.Whole64.the-variants as whole64
 use Rattle.frame.specs.declared.Distance.the-variants as distance
 use Rattle.frame.specs.declared.TStop.the-variants as stop
 use Rattle.frame.specs.declared.Factors.the-variants as factors
-use Rattle.frame.specs.declared.Encoders.{Encoders}
-use Rattle.frame.specs.declared.Frame.{Frame}
 use Rattle.alexa35_items.specs.Kinds.{floatIn, focalLengthIn, effectiveIn, tStopIn, distanceIn, rateIn, exposureIn, wholeIn, lowIn, tintIn, densityIn}
 use Rattle.alexa35.specs.Said.{Said, erases, keeps}
 use Rattle.alexa35.specs.Alexa.{doubleOr, wholeOr, distanceOr}

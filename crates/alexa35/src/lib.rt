@@ -65,31 +65,35 @@ fn single_set(hit: bool, new: Single, old: Single) -> Single
     if hit { new } else { old }
 }
 
+// The same of an f64.
 fn double_set(hit: bool, new: Double, old: Double) -> Double
     ensures { λ r. ⌜ r ≡ cond hit new old ⌝ }
 {
     if hit { new } else { old }
 }
 
+// The same of a u32.
 fn whole_set(hit: bool, new: Whole32, old: Whole32) -> Whole32
     ensures { λ r. ⌜ r ≡ cond hit new old ⌝ }
 {
     if hit { new } else { old }
 }
 
+// The same of a distance.
 fn distance_set(hit: bool, new: Distance, old: Distance) -> Distance
     ensures { λ r. ⌜ r ≡ cond hit new old ⌝ }
 {
     if hit { new } else { old }
 }
 
+// The same of a T-stop.
 fn t_stop_set(hit: bool, new: TStop, old: TStop) -> TStop
     ensures { λ r. ⌜ r ≡ cond hit new old ⌝ }
 {
     if hit { new } else { old }
 }
 
-// The first of two that is there.
+// The first of two f64 that is there.
 fn double_or(x: Double, other: Double) -> Double
     ensures { λ r. ⌜ r ≡ doubleOr x other ⌝ }
 {
@@ -99,6 +103,7 @@ fn double_or(x: Double, other: Double) -> Double
     }
 }
 
+// The same of u64.
 fn whole_or(x: Whole64, other: Whole64) -> Whole64
     ensures { λ r. ⌜ r ≡ wholeOr x other ⌝ }
 {
@@ -108,6 +113,7 @@ fn whole_or(x: Whole64, other: Whole64) -> Whole64
     }
 }
 
+// The same of distances.
 fn distance_or(x: Distance, other: Distance) -> Distance
     ensures { λ r. ⌜ r ≡ distanceOr x other ⌝ }
 {
@@ -125,6 +131,7 @@ fn double_kept(hit: bool, new: Double, old: Double) -> Double
     double_set(hit, double_or(new, old), old)
 }
 
+// The same of a u64.
 fn whole_kept(hit: bool, new: Whole64, old: Whole64) -> Whole64
     ensures { λ r. ⌜ r ≡ cond hit (wholeOr new old) old ⌝ }
 {
@@ -222,7 +229,7 @@ fn values_on(k: Values, n: u64, v: &[u8]) -> Values
 }
 
 // The values before the first item.
-fn nothing() -> Values
+fn none() -> Values
     ensures { λ r. ⌜ r ≡ none ⌝ }
 {
     Values {
@@ -315,7 +322,7 @@ fn after_set(values: Values, set: &[u8]) -> Values
 pub fn of_alexa35(element: &[u8]) -> Frame
     ensures { λ r. ⌜ r ≡ alexaOf (now (element .entry)) ⌝ }
 {
-    let mut k = nothing();
+    let mut k = none();
     let mut at = 0;
     loop {
         let step = Run { at }.step(element);

@@ -10,16 +10,16 @@ use Rattle.labels.specs.Label.{beginning, keyStart}
 use Rattle.floats.specs.Quotients.{ratio, milliseconds, density, metresOfMillimetres, metresOfMils}
 use Rattle.frame.specs.Values.{u32At, floatOf, positive, singleThousandths, doubleThousandths}
 use Rattle.frame.specs.declared.Single.{Single}
-use Rattle.frame.specs.declared.Single.the-variants as single
 use Rattle.frame.specs.declared.Double.{Double}
-use Rattle.frame.specs.declared.Double.the-variants as double
 use Rattle.frame.specs.declared.Whole32.{Whole32}
-use Rattle.frame.specs.declared.Whole32.the-variants as whole32
 use Rattle.frame.specs.declared.Whole64.{Whole64}
-use Rattle.frame.specs.declared.Whole64.the-variants as whole64
 use Rattle.frame.specs.declared.Distance.{Distance}
-use Rattle.frame.specs.declared.Distance.the-variants as distance
 use Rattle.frame.specs.declared.TStop.{TStop}
+use Rattle.frame.specs.declared.Single.the-variants as single
+use Rattle.frame.specs.declared.Double.the-variants as double
+use Rattle.frame.specs.declared.Whole32.the-variants as whole32
+use Rattle.frame.specs.declared.Whole64.the-variants as whole64
+use Rattle.frame.specs.declared.Distance.the-variants as distance
 use Rattle.frame.specs.declared.TStop.the-variants as stop
 
 -- bytes 8 to 11 of ARRI's keys

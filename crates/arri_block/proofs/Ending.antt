@@ -1,23 +1,23 @@
 -- A block lies in the bytes in which it is found, and has its 256 bytes: its item is whole. Assumes nothing.
-use Prim.Native.Nat.{ℕ, zero, suc, _+_, _-_, _≤_, _<_}
-use mathlib.Core.Path.{_≡_, refl, sym, ap, _∙_}
-use mathlib.Core.List.{List, [], _∷_}
+use Prim.Native.Nat.{ℕ, zero, suc, _+_, _≤_}
+use mathlib.Core.Path.{_≡_, refl}
+use mathlib.Core.List.{List}
 use mathlib.Core.Bool.{Bool, true, false, cond}
 use native.Mathlib.Omega.{arith}
 use lib.ListN.{length, take, drop, length-take, length-drop}
 use lib.Dec.{T, leb, leb→le, eqb}
+use Rattle.steps.specs.Told.{Told, found, nothing, refused}
+use Rattle.steps.specs.Listed.{before, atMost, listFrom}
 use Rattle.parts.specs.Number.{numberOf}
 use Rattle.parts.proofs.Parts.{part-length}
 use Rattle.labels.specs.Label.{sameLabel}
-use Rattle.steps.specs.Told.{Told, found, nothing, refused}
-use Rattle.steps.specs.Listed.{before, atMost, listFrom}
 use Rattle.klv.specs.declared.Klv.{Klv}
-use Rattle.klv.specs.Item.{Item}
+use Rattle.klv.specs.Item.{Item, valueOf}
 use Rattle.items.specs.Items.{itemStep, runOf, itemsOf}
-use Rattle.items.proofs.Laws.{Fit, item-fits}
+use Rattle.items.proofs.Laws.{item-fits}
 use Rattle.arri_block.specs.declared.Block.{Block}
 use Rattle.arri_block.specs.declared.Block.the-variants.{At, Nothing}
-use Rattle.arri_block.specs.Block.{lensUnitSet, valueOf, placedAt, orElse, firstOf, firstBytes, inItems, inSet, inRunItem, inRun, inElementItem, blockOf, bytesOf, Ends}
+use Rattle.arri_block.specs.Block.{lensUnitSet, placedAt, orElse, firstOf, firstBytes, inItems, inSet, inRunItem, inRun, inElementItem, blockOf, bytesOf, Ends}
 
 no-block : {e : ℕ} → Ends Nothing e
 no-block p z = absurd (let y : _≡_ {A = ℕ} 0 1 = cc in omega arith)

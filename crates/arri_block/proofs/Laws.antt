@@ -4,8 +4,8 @@ use mathlib.Core.Path.{_≡_}
 use mathlib.Core.List.{List}
 use mathlib.Core.Bool.{Bool}
 use borrow.Author.Tests.{eq-eqb, ne-eqb}
-use Rattle.parts.specs.Number.{numberOf}
 use Rattle.steps.specs.Told.{found, nothing}
+use Rattle.parts.specs.Number.{numberOf}
 use Rattle.klv.specs.Item.{Item}
 use Rattle.items.specs.Items.{itemStep}
 use Rattle.items.proofs.From.{itemsFrom, no-items, one-more}

@@ -9,7 +9,7 @@ use lib.Dec.{leb, eqb}
 use Rattle.parts.specs.Number.{numberOf}
 use Rattle.labels.specs.Label.{sameLabel}
 use Rattle.klv.specs.declared.Klv.{Klv}
-use Rattle.klv.specs.Item.{Item}
+use Rattle.klv.specs.Item.{Item, valueOf}
 use Rattle.items.specs.Items.{runOf, itemsOf}
 use Rattle.arri_block.specs.declared.Block.{Block}
 use Rattle.arri_block.specs.declared.Block.the-variants.{At, Nothing}
@@ -18,10 +18,6 @@ use Rattle.arri_block.specs.declared.Block.the-variants.{At, Nothing}
 abbrev pub lensUnitSet : List ℕ
 lensUnitSet =
     0x06 ∷ 0x0e ∷ 0x2b ∷ 0x34 ∷ 0x02 ∷ 0x53 ∷ 0x01 ∷ 0x01 ∷ 0x0c ∷ 0x02 ∷ 0x01 ∷ 0x01 ∷ 0x01 ∷ 0x01 ∷ 0x00 ∷ 0x00 ∷ []
-
--- an item's value
-abbrev pub valueOf : List ℕ → Item → List ℕ
-valueOf s i = take (i .klv .len) (drop (i .klv .value) s)
 
 -- a block of the bytes that start at a place
 unfoldable pub placedAt : ℕ → Block → Block

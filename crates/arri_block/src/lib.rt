@@ -51,7 +51,7 @@ fn tag(s: &[u8], at: usize, n: usize) -> u64
 }
 
 // A block of the bytes that start at a place, by its place in the whole.
-fn placed(from: usize, b: Block) -> Block
+fn placed_at(from: usize, b: Block) -> Block
     requires { ⌜ Ends (placedAt from b) (2 ^ 64) ⌝ }
     ensures { λ r. ⌜ r ≡ placedAt from b ⌝ }
 {
@@ -95,7 +95,7 @@ fn in_run_item(s: &[u8], k: Klv) -> Block
     ensures { λ r. ⌜ r ≡ inRunItem (now (s .entry)) (item 16 (now (s .entry)) k) ⌝ }
 {
     if labels::same_label(k.label(s), &LENS_UNIT_SET) {
-        placed(k.value, in_set(k.bytes(s)))
+        placed_at(k.value, in_set(k.bytes(s)))
     } else {
         Block::Nothing
     }
@@ -125,7 +125,7 @@ fn in_element_item(s: &[u8], k: Klv) -> Block
     ensures { λ r. ⌜ r ≡ inElementItem (now (s .entry)) (item 1 (now (s .entry)) k) ⌝ }
 {
     if tag(s, k.at, 1) == 0x88 {
-        placed(k.value, in_run(k.bytes(s)))
+        placed_at(k.value, in_run(k.bytes(s)))
     } else {
         Block::Nothing
     }

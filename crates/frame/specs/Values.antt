@@ -9,10 +9,10 @@ use lib.Ieee.Scale.{finite}
 use Rattle.parts.specs.Number.{numberOf}
 use Rattle.floats.specs.Quotients.{ratio, thousandthsF32}
 use Rattle.frame.specs.declared.Single.{Single}
-use Rattle.frame.specs.declared.Single.the-variants as single
 use Rattle.frame.specs.declared.Double.{Double}
-use Rattle.frame.specs.declared.Double.the-variants as double
 use Rattle.frame.specs.declared.TiltRoll.{TiltRoll}
+use Rattle.frame.specs.declared.Single.the-variants as single
+use Rattle.frame.specs.declared.Double.the-variants as double
 use Rattle.frame.specs.declared.TiltRoll.the-variants as angles
 
 -- the u32 at a place: the number that its four bytes hold, or as many of them as are there

@@ -20,3 +20,7 @@ pub record Item : Type 0 where
 
 abbrev pub item : ℕ → List ℕ → Klv → Item
 item key s k = record { klv = k; key = take key (drop (k .at) s) }
+
+-- its value's bytes
+abbrev pub valueOf : List ℕ → Item → List ℕ
+valueOf s i = take (i .klv .len) (drop (i .klv .value) s)

@@ -1,20 +1,19 @@
 -- `alexa35::after_set` meets its contract. The loop's invariant: the items from the cursor on leave of the values so far what the whole set leaves.
-use Rattle.alexa35_items.specs.Kinds.{numberIn}
-use Rattle.alexa35.proofs.Laws.{setFrom, set-end, set-more}
-use Rattle.alexa35.specs.Values.{valuesOn}
-use Rattle.alexa35.specs.Said.{said, inSet, after}
-use Rattle.items.proofs.Laws.{Fit, item-fits}
-use Rattle.items.proofs.From.{run-item, run-end}
-use Rattle.items.specs.Items.{itemStep, runOf}
-use Rattle.klv.specs.Item.{item}
-use Rattle.steps.specs.Told.{found}
-use lib.ListN.{length}
-use denote.Ref.{now}
-use native.Mathlib.Omega.{arith}
-use mathlib.Core.List.{List}
+use Prim.Native.Nat.{_-_}
 use mathlib.Core.Bool.{true}
 use mathlib.Core.Path.{_≡_, refl, sym, ap, ap₂, _∙_}
-use Prim.Native.Nat.{ℕ, _-_}
+use native.Mathlib.Omega.{arith}
+use denote.Ref.{now}
+use lib.ListN.{length}
+use Rattle.steps.specs.Told.{found}
+use Rattle.klv.specs.Item.{item}
+use Rattle.items.specs.Items.{itemStep, runOf}
+use Rattle.items.proofs.Laws.{item-fits}
+use Rattle.items.proofs.From.{run-item, run-end}
+use Rattle.alexa35_items.specs.Kinds.{numberIn}
+use Rattle.alexa35.specs.Values.{valuesOn}
+use Rattle.alexa35.specs.Said.{said, inSet, after}
+use Rattle.alexa35.proofs.Laws.{setFrom, set-end, set-more}
 use borrow.Author.Needs.{needs}
 use Rattle.alexa35.proofs.after_set.Statement.{statement}
 use Rattle.alexa35.proofs.after_set.Tie as tie
@@ -30,10 +29,6 @@ is-found : (k : tie.After-step2 Inv-loop μ-loop)
     → itemStep 16 true (now (k .before .before .before .before .before .args .set)) (k .before .before .before .loop .at)
     ≡ found (item 16 (now (k .before .before .before .before .before .args .set)) (k .step2 .given .0 .0)) (k .step2 .given .0 .1 .0 .at)
 is-found k = run-item _ _ _ (k .before .before .step .ensures) _ _ (k .step2 .given .1)
-
-is-fit : (k : tie.After-step2 Inv-loop μ-loop)
-    → Fit 16 (now (k .before .before .before .before .before .args .set)) (k .before .before .before .loop .at) (item 16 (now (k .before .before .before .before .before .args .set)) (k .step2 .given .0 .0)) (k .step2 .given .0 .1 .0 .at)
-is-fit k = item-fits 16 true _ _ _ _ (is-found k)
 
 loop-holds : tie.Need-loop-holds Inv-loop μ-loop
 unfolding inSet runOf
@@ -66,7 +61,7 @@ values-on-requires : tie.Need-values-on-requires Inv-loop μ-loop
 values-on-requires c κs = search needs
 
 loop-less : tie.Need-loop-less Inv-loop μ-loop
-loop-less c = omega (arith, is-fit (c .before .before .before .before .before))
+loop-less c = omega (arith, item-fits 16 true _ _ _ _ (is-found (c .before .before .before .before .before)))
 
 loop-again : tie.Need-loop-again Inv-loop μ-loop
 loop-again c =

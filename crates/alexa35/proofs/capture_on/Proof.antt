@@ -1,13 +1,13 @@
 -- `alexa35::capture_on` meets its contract: field by field.
-use Rattle.alexa35_items.specs.Kinds.{tintOf, densityOf}
+use mathlib.Core.Bool.{cond}
+use mathlib.Core.Path.{ap, _∙_}
+use lib.Dec.{eqb}
 use Rattle.frame.specs.declared.Whole32.{Whole32}
 use Rattle.frame.specs.declared.Double.{Double}
+use Rattle.alexa35_items.specs.Kinds.{tintOf, densityOf}
 use Rattle.alexa35.specs.Alexa.{doubleOr}
 use Rattle.alexa35.specs.Values.{captureOn}
 use Rattle.alexa35.specs.Said.{erases, keeps}
-use lib.Dec.{eqb}
-use mathlib.Core.Bool.{Bool, cond}
-use mathlib.Core.Path.{_≡_, ap, _∙_}
 use borrow.Author.Needs.{needs}
 use Rattle.alexa35.proofs.capture_on.Statement.{statement}
 use Rattle.alexa35.proofs.capture_on.Tie as tie

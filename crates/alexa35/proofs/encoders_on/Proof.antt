@@ -1,11 +1,11 @@
 -- `alexa35::encoders_on` meets its contract: field by field.
+use mathlib.Core.Bool.{cond}
+use mathlib.Core.Path.{ap, _∙_}
+use lib.Dec.{eqb}
 use Rattle.frame.specs.declared.Whole64.{Whole64}
 use Rattle.alexa35.specs.Alexa.{wholeOr}
 use Rattle.alexa35.specs.Values.{encodersOn}
 use Rattle.alexa35.specs.Said.{erases, keeps}
-use lib.Dec.{eqb}
-use mathlib.Core.Bool.{Bool, cond}
-use mathlib.Core.Path.{_≡_, ap, _∙_}
 use borrow.Author.Needs.{needs}
 use Rattle.alexa35.proofs.encoders_on.Statement.{statement}
 use Rattle.alexa35.proofs.encoders_on.Tie as tie

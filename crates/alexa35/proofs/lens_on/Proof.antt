@@ -1,4 +1,7 @@
 -- `alexa35::lens_on` meets its contract: field by field.
+use mathlib.Core.Bool.{cond}
+use mathlib.Core.Path.{ap, _∙_}
+use lib.Dec.{eqb}
 use Rattle.frame.specs.declared.TStop.{TStop}
 use Rattle.frame.specs.declared.Distance.{Distance}
 use Rattle.frame.specs.declared.Double.{Double}
@@ -6,9 +9,6 @@ use Rattle.frame.specs.declared.Single.{Single}
 use Rattle.alexa35.specs.Alexa.{doubleOr}
 use Rattle.alexa35.specs.Values.{lensOn}
 use Rattle.alexa35.specs.Said.{erases, keeps}
-use lib.Dec.{eqb}
-use mathlib.Core.Bool.{Bool, cond}
-use mathlib.Core.Path.{_≡_, ap, _∙_}
 use borrow.Author.Needs.{needs}
 use Rattle.alexa35.proofs.lens_on.Statement.{statement}
 use Rattle.alexa35.proofs.lens_on.Tie as tie

@@ -1,20 +1,20 @@
 -- `alexa35::of_alexa35` meets its contract. The loop's invariant: the sets from the cursor on leave of the values so far what the whole element leaves.
-use Rattle.alexa35.proofs.Table.{table}
-use Rattle.alexa35.proofs.Laws.{setsFrom, sets-end, sets-more}
-use Rattle.alexa35.specs.Values.{valuesOn, none, frameOf}
-use Rattle.alexa35.specs.Said.{inSet, saidIn, after}
-use Rattle.items.proofs.Laws.{Fit, item-fits}
-use Rattle.items.proofs.From.{run-item, run-end}
-use Rattle.items.specs.Items.{itemStep, runOf}
-use Rattle.klv.specs.Item.{item}
-use Rattle.steps.specs.Told.{found}
-use lib.ListN.{length}
-use denote.Ref.{now}
-use native.Mathlib.Omega.{arith}
+use Prim.Native.Nat.{ℕ, _-_}
 use mathlib.Core.List.{List}
 use mathlib.Core.Bool.{true}
-use mathlib.Core.Path.{_≡_, refl, sym, ap, ap₂, _∙_}
-use Prim.Native.Nat.{ℕ, _-_}
+use mathlib.Core.Path.{_≡_, sym, ap, _∙_}
+use native.Mathlib.Omega.{arith}
+use denote.Ref.{now}
+use lib.ListN.{length}
+use Rattle.steps.specs.Told.{found}
+use Rattle.klv.specs.Item.{item}
+use Rattle.items.specs.Items.{itemStep, runOf}
+use Rattle.items.proofs.Laws.{item-fits}
+use Rattle.items.proofs.From.{run-item, run-end}
+use Rattle.alexa35.specs.Values.{valuesOn, none, frameOf}
+use Rattle.alexa35.specs.Said.{inSet, saidIn, after}
+use Rattle.alexa35.proofs.Table.{table}
+use Rattle.alexa35.proofs.Laws.{setsFrom, sets-end, sets-more}
 use borrow.Author.Needs.{needs}
 use Rattle.alexa35.proofs.of_alexa35.Statement.{statement}
 use Rattle.alexa35.proofs.of_alexa35.Tie as tie
@@ -31,16 +31,12 @@ is-found : (k : tie.After-step2 Inv-loop μ-loop)
     ≡ found (item 16 (now (k .before .before .before .before .before .before .args .element)) (k .step2 .given .0 .0)) (k .step2 .given .0 .1 .0 .at)
 is-found k = run-item _ _ _ (k .before .before .step .ensures) _ _ (k .step2 .given .1)
 
-is-fit : (k : tie.After-step2 Inv-loop μ-loop)
-    → Fit 16 (now (k .before .before .before .before .before .before .args .element)) (k .before .before .before .loop .at) (item 16 (now (k .before .before .before .before .before .before .args .element)) (k .step2 .given .0 .0)) (k .step2 .given .0 .1 .0 .at)
-is-fit k = item-fits 16 true _ _ _ _ (is-found k)
-
-nothing-requires : tie.Need-nothing-requires Inv-loop μ-loop
-nothing-requires c κs = search needs
+none-requires : tie.Need-none-requires Inv-loop μ-loop
+none-requires c κs = search needs
 
 loop-holds : tie.Need-loop-holds Inv-loop μ-loop
 unfolding saidIn runOf
-loop-holds c = rw (c .nothing .ensures)
+loop-holds c = rw (c .none .ensures)
 
 step-requires : tie.Need-step-requires Inv-loop μ-loop
 step-requires c κs = search needs
@@ -66,7 +62,7 @@ after-set-requires : tie.Need-after-set-requires Inv-loop μ-loop
 after-set-requires c κs = search needs
 
 loop-less : tie.Need-loop-less Inv-loop μ-loop
-loop-less c = omega (arith, is-fit (c .before .before .before))
+loop-less c = omega (arith, item-fits 16 true _ _ _ _ (is-found (c .before .before .before)))
 
 loop-again : tie.Need-loop-again Inv-loop μ-loop
 loop-again c =
@@ -80,7 +76,7 @@ of-alexa35-spec =
     (tie.spec
     Inv-loop
     μ-loop
-    nothing-requires
+    none-requires
     loop-holds
     step-requires
     enum-known-step

@@ -1,10 +1,10 @@
 -- `alexa35::orientation_on` meets its contract: field by field.
+use mathlib.Core.Bool.{cond}
+use mathlib.Core.Path.{ap, _∙_}
+use lib.Dec.{eqb}
 use Rattle.frame.specs.declared.Single.{Single}
 use Rattle.alexa35.specs.Values.{orientationOn}
 use Rattle.alexa35.specs.Said.{erases, keeps}
-use lib.Dec.{eqb}
-use mathlib.Core.Bool.{Bool, cond}
-use mathlib.Core.Path.{_≡_, ap, _∙_}
 use borrow.Author.Needs.{needs}
 use Rattle.alexa35.proofs.orientation_on.Statement.{statement}
 use Rattle.alexa35.proofs.orientation_on.Tie as tie

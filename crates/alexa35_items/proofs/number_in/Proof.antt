@@ -1,14 +1,13 @@
 -- `alexa35_items::number_in` meets its contract: the branches are the definition's, and two bytes hold a number that fits.
-use Rattle.labels.specs.Label.{beginning, keyStart}
-use Rattle.parts.proofs.Cut.{part-whole}
-use Rattle.parts.specs.Number.{numberOf}
-use lib.ListN.{take, drop}
-use denote.Ref.{now}
-use native.Mathlib.Omega.{arith}
 use Prim.Native.Nat.{ℕ, _%_, _^_}
-use mathlib.Core.Bool.{true, false, _&&_}
 use mathlib.Core.List.{List}
 use mathlib.Core.Path.{_≡_, _∙_, ap, sym}
+use native.Mathlib.Omega.{arith}
+use denote.Ref.{now}
+use lib.ListN.{take, drop}
+use Rattle.parts.specs.Number.{numberOf}
+use Rattle.parts.proofs.Cut.{part-whole}
+use Rattle.labels.specs.Label.{beginning, keyStart}
 use Rattle.alexa35_items.specs.Kinds.{numberIn, arriItems}
 use borrow.Author.Needs.{needs}
 use Rattle.alexa35_items.proofs.number_in.Statement.{statement}

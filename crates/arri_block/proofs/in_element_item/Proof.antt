@@ -1,13 +1,13 @@
 -- `arri_block::in_element_item` meets its contract: the branch is the definition's, and the block lies in the item.
-use borrow.Author.Tests.{eq-eqb, ne-eqb}
-use Rattle.arri_block.proofs.Ending.{part-ends, run-ends}
-use Rattle.arri_block.specs.Block.{placedAt, inRun, inElementItem}
-use denote.Ref.{now}
-use lib.ListN.{take, drop, length}
 use Prim.Native.Nat.{ℕ}
 use mathlib.Core.List.{List}
-use native.Mathlib.Omega.{arith}
 use mathlib.Core.Path.{_≡_, sym, ap, _∙_}
+use native.Mathlib.Omega.{arith}
+use borrow.Author.Tests.{eq-eqb, ne-eqb}
+use denote.Ref.{now}
+use lib.ListN.{take, drop}
+use Rattle.arri_block.specs.Block.{placedAt, inRun, inElementItem}
+use Rattle.arri_block.proofs.Ending.{part-ends, run-ends}
 use borrow.Author.Needs.{needs}
 use Rattle.arri_block.proofs.in_element_item.Statement.{statement}
 use Rattle.arri_block.proofs.in_element_item.Tie as tie
@@ -27,14 +27,14 @@ bytes-requires c κs = search needs
 in-run-requires : tie.Need-in-run-requires
 in-run-requires c κs = search needs
 
-placed-requires : tie.Need-placed-requires
-placed-requires c κs = λ p e.
+placed-at-requires : tie.Need-placed-at-requires
+placed-at-requires c κs = λ p e.
     let a = c .before .before .before .before .before in
     omega (arith, part-ends (now (a .args .s)) (a .args .k .value) (a .args .k .len) _ (a .pre) (run-ends (part-of c)) p (ap (placedAt (a .args .k .value)) (sym (is-block c)) ∙ e))
 
 returns : tie.Need-returns
 unfolding inElementItem
-returns c = rw (c .placed .ensures, is-block (c .before)) (simp (eq-eqb _ _ (sym (c .before .before .before .before .tag .ensures) ∙ c .before .before .before .if1 .taken)))
+returns c = rw (c .placed-at .ensures, is-block (c .before)) (simp (eq-eqb _ _ (sym (c .before .before .before .before .tag .ensures) ∙ c .before .before .before .if1 .taken)))
 
 returns-2 : tie.Need-returns-2
 unfolding inElementItem
@@ -43,4 +43,4 @@ returns-2 c = simp (ne-eqb _ _ (λ e. c .if1 .left (c .before .tag .ensures ∙ 
 pub in-element-item-spec : {M : Type 1} → statement M
 in-element-item-spec =
     tie.close
-    (tie.spec tag-requires bytes-requires in-run-requires placed-requires returns returns-2)
+    (tie.spec tag-requires bytes-requires in-run-requires placed-at-requires returns returns-2)

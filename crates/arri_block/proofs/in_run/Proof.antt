@@ -1,18 +1,17 @@
 -- `arri_block::in_run` meets its contract. The loop's invariant: the items from the cursor on give what the whole gives.
-use Rattle.items.proofs.From.{itemsFrom, run-item, run-end}
-use Rattle.arri_block.proofs.Laws.{first-end, first-hit, first-passed}
-use Rattle.arri_block.specs.Block.{firstOf, inRunItem, inRun}
-use Rattle.items.specs.Items.{itemStep, runOf}
-use Rattle.items.proofs.Laws.{Fit, item-fits}
-use Rattle.klv.specs.Item.{item}
-use Rattle.steps.specs.Listed.{listFrom}
-use Rattle.steps.specs.Told.{found, nothing}
-use lib.ListN.{length}
-use denote.Ref.{now}
+use Prim.Native.Nat.{_-_}
+use mathlib.Core.Bool.{true}
+use mathlib.Core.Path.{_≡_, refl, sym, _∙_}
 use native.Mathlib.Omega.{arith}
-use mathlib.Core.Bool.{true, false}
-use mathlib.Core.Path.{_≡_, refl, sym, ap, _∙_}
-use Prim.Native.Nat.{ℕ, _-_}
+use denote.Ref.{now}
+use lib.ListN.{length}
+use Rattle.steps.specs.Told.{found}
+use Rattle.klv.specs.Item.{item}
+use Rattle.items.specs.Items.{itemStep, runOf}
+use Rattle.items.proofs.From.{itemsFrom, run-item, run-end}
+use Rattle.items.proofs.Laws.{item-fits}
+use Rattle.arri_block.specs.Block.{firstOf, inRunItem, inRun}
+use Rattle.arri_block.proofs.Laws.{first-end, first-hit, first-passed}
 use borrow.Author.Needs.{needs}
 use Rattle.arri_block.proofs.in_run.Statement.{statement}
 use Rattle.arri_block.proofs.in_run.Tie as tie
@@ -28,10 +27,6 @@ is-found : (k : tie.After-step2 Inv-loop μ-loop)
     → itemStep 16 true (now (k .before .before .before .before .before .args .s)) (k .before .before .before .loop .at)
     ≡ found (item 16 (now (k .before .before .before .before .before .args .s)) (k .step2 .given .0 .0)) (k .step2 .given .0 .1 .0 .at)
 is-found k = run-item _ _ _ (k .before .before .step .ensures) _ _ (k .step2 .given .1)
-
-is-fit : (k : tie.After-step2 Inv-loop μ-loop)
-    → Fit 16 (now (k .before .before .before .before .before .args .s)) (k .before .before .before .loop .at) (item 16 (now (k .before .before .before .before .before .args .s)) (k .step2 .given .0 .0)) (k .step2 .given .0 .1 .0 .at)
-is-fit k = item-fits 16 true _ _ _ _ (is-found k)
 
 loop-holds : tie.Need-loop-holds Inv-loop μ-loop
 unfolding inRun runOf
@@ -52,7 +47,7 @@ returns c =
     sym (first-end 16 true _ _ _ (run-end _ _ _ (c .before .before .step .ensures) (c .enum-told .given .1))) ∙ l .loop .inv
 
 in-run-item-requires : tie.Need-in-run-item-requires Inv-loop μ-loop
-in-run-item-requires c κs = omega (arith, is-fit (c .before))
+in-run-item-requires c κs = omega (arith, item-fits 16 true _ _ _ _ (is-found (c .before)))
 
 enum-told-2 : tie.Need-enum-told-2 Inv-loop μ-loop
 enum-told-2 c = search needs
@@ -66,7 +61,7 @@ enum-told-3 : tie.Need-enum-told-3 Inv-loop μ-loop
 enum-told-3 c = search needs
 
 loop-less : tie.Need-loop-less Inv-loop μ-loop
-loop-less c = omega (arith, is-fit (c .before .before .before .before))
+loop-less c = omega (arith, item-fits 16 true _ _ _ _ (is-found (c .before .before .before .before)))
 
 loop-again : tie.Need-loop-again Inv-loop μ-loop
 loop-again c =

@@ -1,15 +1,13 @@
 -- `arri_block::in_run_item` meets its contract: the branch is the definition's, and the block lies in the item.
-use Rattle.arri_block.specs.Block.{lensUnitSet}
-use Rattle.labels.specs.Label.{sameLabel, labelAt}
-use mathlib.Core.Bool.{Bool}
-use Rattle.arri_block.proofs.Ending.{part-ends, set-ends}
-use Rattle.arri_block.specs.Block.{placedAt, inSet, inRunItem}
-use denote.Ref.{now}
-use lib.ListN.{take, drop, length}
 use Prim.Native.Nat.{ℕ}
 use mathlib.Core.List.{List}
-use native.Mathlib.Omega.{arith}
 use mathlib.Core.Path.{_≡_, sym, ap, _∙_}
+use native.Mathlib.Omega.{arith}
+use denote.Ref.{now}
+use lib.ListN.{take, drop}
+use Rattle.labels.specs.Label.{sameLabel, labelAt}
+use Rattle.arri_block.specs.Block.{lensUnitSet, placedAt, inSet, inRunItem}
+use Rattle.arri_block.proofs.Ending.{part-ends, set-ends}
 use borrow.Author.Needs.{needs}
 use Rattle.arri_block.proofs.in_run_item.Statement.{statement}
 use Rattle.arri_block.proofs.in_run_item.Tie as tie
@@ -38,14 +36,14 @@ bytes-requires c κs = search needs
 in-set-requires : tie.Need-in-set-requires
 in-set-requires c κs = search needs
 
-placed-requires : tie.Need-placed-requires
-placed-requires c κs = λ p e.
+placed-at-requires : tie.Need-placed-at-requires
+placed-at-requires c κs = λ p e.
     let a = c .before .before .before .before .before .before .before in
     omega (arith, part-ends (now (a .args .s)) (a .args .k .value) (a .args .k .len) _ (a .pre) (set-ends (part-of c)) p (ap (placedAt (a .args .k .value)) (sym (is-block c)) ∙ e))
 
 returns : tie.Need-returns
 unfolding inRunItem
-returns c = rw (c .placed .ensures, is-block (c .before)) (simp (sym (is-same (c .before .before .before .before)) ∙ c .before .before .before .if1 .taken))
+returns c = rw (c .placed-at .ensures, is-block (c .before)) (simp (sym (is-same (c .before .before .before .before)) ∙ c .before .before .before .if1 .taken))
 
 returns-2 : tie.Need-returns-2
 unfolding inRunItem
@@ -60,6 +58,6 @@ in-run-item-spec =
     same-label-requires
     bytes-requires
     in-set-requires
-    placed-requires
+    placed-at-requires
     returns
     returns-2)

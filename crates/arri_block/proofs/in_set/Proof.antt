@@ -1,18 +1,17 @@
 -- `arri_block::in_set` meets its contract. The loop's invariant: the items from the cursor on give what the whole set gives.
-use Rattle.items.proofs.From.{itemsFrom, held-item, held-end}
-use Rattle.arri_block.proofs.Laws.{tag-end, tag-hit, tag-passed}
-use Rattle.arri_block.specs.Block.{inItems, inSet}
-use Rattle.items.proofs.Laws.{Fit, item-fits}
-use Rattle.items.specs.Items.{itemStep, itemsOf}
-use Rattle.klv.specs.Item.{item}
-use Rattle.steps.specs.Listed.{listFrom}
-use Rattle.steps.specs.Told.{found, nothing}
-use lib.ListN.{length}
-use denote.Ref.{now}
+use Prim.Native.Nat.{_-_}
+use mathlib.Core.Bool.{false}
+use mathlib.Core.Path.{_≡_, refl, sym, _∙_}
 use native.Mathlib.Omega.{arith}
-use mathlib.Core.Bool.{true, false}
-use mathlib.Core.Path.{_≡_, refl, sym, ap, _∙_}
-use Prim.Native.Nat.{ℕ, _-_}
+use denote.Ref.{now}
+use lib.ListN.{length}
+use Rattle.steps.specs.Told.{found}
+use Rattle.klv.specs.Item.{item}
+use Rattle.items.specs.Items.{itemStep, itemsOf}
+use Rattle.items.proofs.From.{itemsFrom, held-item, held-end}
+use Rattle.items.proofs.Laws.{item-fits}
+use Rattle.arri_block.specs.Block.{inItems, inSet}
+use Rattle.arri_block.proofs.Laws.{tag-end, tag-hit, tag-passed}
 use borrow.Author.Needs.{needs}
 use Rattle.arri_block.proofs.in_set.Statement.{statement}
 use Rattle.arri_block.proofs.in_set.Tie as tie
@@ -28,10 +27,6 @@ is-found : (k : tie.After-step2 Inv-loop μ-loop)
     → itemStep 2 false (now (k .before .before .before .before .before .args .s)) (k .before .before .before .loop .at)
     ≡ found (item 2 (now (k .before .before .before .before .before .args .s)) (k .step2 .given .0 .0)) (k .step2 .given .0 .1 .0 .at)
 is-found k = held-item 2 false _ _ _ (k .before .before .step .ensures) _ _ (k .step2 .given .1)
-
-is-fit : (k : tie.After-step2 Inv-loop μ-loop)
-    → Fit 2 (now (k .before .before .before .before .before .args .s)) (k .before .before .before .loop .at) (item 2 (now (k .before .before .before .before .before .args .s)) (k .step2 .given .0 .0)) (k .step2 .given .0 .1 .0 .at)
-is-fit k = item-fits 2 false _ _ _ _ (is-found k)
 
 loop-holds : tie.Need-loop-holds Inv-loop μ-loop
 unfolding inSet itemsOf
@@ -63,7 +58,7 @@ returns-2 c =
     c .first-bytes .ensures ∙ sym (tag-hit 2 false _ _ _ _ (is-found k) (sym (c .before .before .tag .ensures) ∙ c .before .if1 .taken)) ∙ k .before .before .before .loop .inv
 
 loop-less : tie.Need-loop-less Inv-loop μ-loop
-loop-less c = omega (arith, is-fit (c .before .before .before))
+loop-less c = omega (arith, item-fits 2 false _ _ _ _ (is-found (c .before .before .before)))
 
 loop-again : tie.Need-loop-again Inv-loop μ-loop
 loop-again c =

@@ -1,10 +1,10 @@
 -- `arri_block::tag` meets its contract: at most eight bytes hold a number that fits.
-use Rattle.parts.proofs.Cut.{part-whole}
-use Rattle.parts.specs.Number.{numberOf}
-use denote.Ref.{now}
 use Prim.Native.Nat.{ℕ, _%_, _^_}
 use mathlib.Core.List.{List}
 use mathlib.Core.Path.{_∙_, ap}
+use denote.Ref.{now}
+use Rattle.parts.specs.Number.{numberOf}
+use Rattle.parts.proofs.Cut.{part-whole}
 use borrow.Author.Needs.{needs}
 use Rattle.arri_block.proofs.tag.Statement.{statement}
 use Rattle.arri_block.proofs.tag.Tie as tie

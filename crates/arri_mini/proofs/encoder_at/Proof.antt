@@ -1,13 +1,13 @@
 -- `arri_mini::encoder_at` meets its contract: two bytes hold a number that fits.
-use Rattle.parts.proofs.Cut.{part-whole}
-use Rattle.parts.specs.Number.{numberOf}
-use lib.ListN.{take, drop}
-use denote.Ref.{now}
-use native.Mathlib.Omega.{arith}
 use Prim.Native.Nat.{ℕ, _%_, _^_}
 use mathlib.Core.List.{List}
 use mathlib.Core.Path.{_≡_, _∙_, ap, sym}
+use native.Mathlib.Omega.{arith}
 use borrow.Author.Tests.{eq-eqb, ne-eqb}
+use denote.Ref.{now}
+use lib.ListN.{take, drop}
+use Rattle.parts.specs.Number.{numberOf}
+use Rattle.parts.proofs.Cut.{part-whole}
 use Rattle.arri_mini.specs.Dynamic.{encoderAt}
 use borrow.Author.Needs.{needs}
 use Rattle.arri_mini.proofs.encoder_at.Statement.{statement}

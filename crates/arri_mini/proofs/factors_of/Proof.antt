@@ -1,6 +1,6 @@
 -- `arri_mini::factors_of` meets its contract: each return is one case of the definition.
-use Rattle.arri_mini.proofs.Constants.{one64}
 use Rattle.arri_mini.specs.Dynamic.{factorsOf}
+use Rattle.arri_mini.proofs.Constants.{one64}
 use borrow.Author.Needs.{needs}
 use Rattle.arri_mini.proofs.factors_of.Statement.{statement}
 use Rattle.arri_mini.proofs.factors_of.Tie as tie

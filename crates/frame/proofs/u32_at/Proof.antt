@@ -1,13 +1,13 @@
 -- `frame::u32_at` meets its contract: four bytes hold a number below 2 ^ 32.
-use lib.ListN.{take, drop}
-use Rattle.parts.specs.Number.{numberOf}
-use Prim.Native.Nat.{ℕ, _%_, _^_, _<_}
+use Prim.Native.Nat.{ℕ, _%_, _^_}
 use mathlib.Core.Path.{_≡_, _∙_, ap, sym}
 use mathlib.Core.List.{List}
+use native.Mathlib.Omega.{arith}
+use denote.Ref.{now}
+use lib.ListN.{take, drop}
+use Rattle.parts.specs.Number.{numberOf}
 use Rattle.parts.specs.Bytes.{Bytes}
 use Rattle.parts.proofs.Cut.{part-below, part-whole}
-use denote.Ref.{now}
-use native.Mathlib.Omega.{arith}
 use Rattle.frame.specs.Values.{u32At}
 use borrow.Author.Needs.{needs}
 use Rattle.frame.proofs.u32_at.Statement.{statement}

@@ -1,10 +1,10 @@
--- `arri_block::placed` meets its contract: the block ends where a place still fits.
+-- `arri_block::placed_at` meets its contract: the block ends where a place still fits.
 use mathlib.Core.Path.{ap}
 use native.Mathlib.Omega.{arith}
 use Rattle.arri_block.specs.Block.{placedAt}
 use borrow.Author.Needs.{needs}
-use Rattle.arri_block.proofs.placed.Statement.{statement}
-use Rattle.arri_block.proofs.placed.Tie as tie
+use Rattle.arri_block.proofs.placed_at.Statement.{statement}
+use Rattle.arri_block.proofs.placed_at.Tie as tie
 
 enum-known-b : tie.Need-enum-known-b
 enum-known-b c = search needs
@@ -24,5 +24,5 @@ returns-2 : tie.Need-returns-2
 unfolding placedAt
 returns-2 c = rw (c .before .b .given .1)
 
-pub placed-spec : {M : Type 1} → statement M
-placed-spec = tie.close (tie.spec enum-known-b enum-told returns add-at returns-2)
+pub placed-at-spec : {M : Type 1} → statement M
+placed-at-spec = tie.close (tie.spec enum-known-b enum-told returns add-at returns-2)
