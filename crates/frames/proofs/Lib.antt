@@ -2,3 +2,4 @@ pub mod Laws
 pub mod Seeks
 pub mod Answers
 pub mod Lists
+pub mod Counted

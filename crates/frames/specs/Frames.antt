@@ -1,5 +1,6 @@
 -- The frame walks: document 01, "Frame walks".
-use Prim.Native.Nat.{ℕ, _+_, _%_, _^_}
+use Prim.Native.Nat.{ℕ, _+_, _%_, _^_, _≤_}
+use mathlib.Core.Path.{_≡_}
 use mathlib.Core.List.{List, [], _∷_}
 use mathlib.Core.Bool.{Bool, true, false, cond}
 use lib.ListN.{length}
@@ -9,7 +10,7 @@ use Rattle.steps.specs.Wanted.{wantedFrom, kept}
 use Rattle.klv.specs.declared.Klv.{Klv}
 use Rattle.klv.specs.Item.{Item}
 use Rattle.walk.specs.Walk.{finishedBy}
-use Rattle.records.specs.Records.{finishedListBy}
+use Rattle.records.specs.Records.{finishedListBy, finishedFrom}
 use Rattle.frames.specs.declared.Camera.{Camera}
 use Rattle.frames.specs.declared.Camera.the-variants as camera
 use Rattle.frames.specs.declared.Frame.{Frame}
@@ -65,6 +66,16 @@ shown c n (i ∷ l) = cond (isFrame (kind c i)) (framed (frame c n i) ∷ shown 
 -- a camera's walk of s with the end e, whole
 abbrev pub framesOf : Camera → List ℕ → ℕ → List Shown
 framesOf c s e = shown c 0 (wantedRecords c s e 0)
+
+-- none of these records is over-long
+unfoldable pub AllRead : Camera → List Item → Type 0
+AllRead c [] = Unit {0}
+AllRead c (i ∷ l) = (overLong c i ≡ false) × AllRead c l
+
+-- Frames are counted over demand 2's list: where none of its records is over-long, they are those of it that are wanted
+abbrev pub CountedOverRecords : Type 0
+CountedOverRecords =
+    (c : Camera) (s : List ℕ) (e : ℕ) → e ≤ length s → AllRead c (finishedFrom s e 0) → framesOf c s e ≡ shown c 0 (kept (wanted c) (finishedFrom s e 0))
 
 -- What the parts of a step say
 

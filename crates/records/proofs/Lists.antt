@@ -59,18 +59,24 @@ module _ (next : Item → ℕ) (on : Onward next) (limit : ℕ) (s : List ℕ) (
   pub same-walk : (p q : ℕ) → walked limit s e p ≡ walked limit s e q → list p ≡ list q
   same-walk p q w = by-step p ∙ ap (λ (x : Walked). before list (after x)) w ∙ sym (by-step q)
 
+  pub list-stopped : (p q : ℕ) → walked limit s e p ≡ Stopped q → list p ≡ []
+  unfolding before
+  list-stopped p q w = by-step p ∙ rw (w, says .says-stopped q)
+
+  pub list-walked : (p : ℕ) (k : Klv) → walked limit s e p ≡ Found k → list p ≡ item 16 s k ∷ list (next (item 16 s k))
+  unfolding before
+  list-walked p k w = by-step p ∙ rw (w, says .says-found k)
+
   pub list-lost : (p q : ℕ) → walked limit s e p ≡ Lost q → list p ≡ []
   unfolding before
   list-lost p q w = by-step p ∙ rw (w, says .says-lost q .1)
 
   module _ (p : ℕ) where
     pub list-stop : rules limit s e p ≡ Stop → list p ≡ []
-    unfolding before
-    list-stop t = by-step p ∙ rw (walk-stop limit s e p t, says .says-stopped p)
+    list-stop t = list-stopped p p (walk-stop limit s e p t)
 
     pub list-record : (k : Klv) → rules limit s e p ≡ Record k → list p ≡ item 16 s k ∷ list (next (item 16 s k))
-    unfolding before
-    list-record k t = by-step p ∙ rw (walk-record limit s e p k t, says .says-found k)
+    list-record k t = list-walked p k (walk-record limit s e p k t)
 
   -- fewer than 17 bytes are left
   pub list-short : (p : ℕ) → e - p < 17 → list p ≡ []
