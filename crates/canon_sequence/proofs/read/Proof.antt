@@ -1,0 +1,84 @@
+-- `canon_sequence::read` meets its contract. The loop's invariant: the items from the cursor on give what all of them give.
+use Prim.Native.Nat.{_-_}
+use mathlib.Core.Path.{_≡_, sym, _∙_}
+use mathlib.Core.Bool.{false}
+use native.Mathlib.Omega.{arith}
+use lib.ListN.{length}
+use denote.Ref.{now}
+use Rattle.steps.specs.Told.{found}
+use Rattle.parts.proofs.Parts.{number-there}
+use Rattle.klv.specs.Item.{item}
+use Rattle.items.specs.Items.{itemStep}
+use Rattle.items.proofs.Laws.{Fit, item-fits}
+use Rattle.canon_sequence.proofs.Laws.{Going, going-start, going-next, going-end}
+use borrow.Author.Needs.{needs}
+use Rattle.canon_sequence.proofs.read.Statement.{statement}
+use Rattle.canon_sequence.proofs.read.Tie as tie
+
+abbrev Inv-loop : tie.InvT-loop
+Inv-loop s q₀ at₀ q at = Going s q at
+
+abbrev μ-loop : tie.MeasureT-loop
+μ-loop s q₀ at₀ q at = length s - at
+
+-- where there is a whole item
+is-item : (c : tie.After-known-told Inv-loop μ-loop) → itemStep 2 false (now (c .before .before .before .before .before .before .before .args .s)) (c .before .before .before .before .loop .at)
+    ≡ found (item 2 (now (c .before .before .before .before .before .before .before .args .s)) (c .before .t .given .0 .0)) (c .before .t .given .0 .1 .0 .at)
+is-item c = sym (rw (c .before .t .given .1) at (c .before .before .before .step .ensures))
+
+fits : (c : tie.After-known-told Inv-loop μ-loop) → Fit 2 (now (c .before .before .before .before .before .before .before .args .s)) (c .before .before .before .before .loop .at)
+    (item 2 (now (c .before .before .before .before .before .before .before .args .s)) (c .before .t .given .0 .0)) (c .before .t .given .0 .1 .0 .at)
+fits c = item-fits _ _ _ _ _ _ (is-item c)
+
+empty-requires : tie.Need-empty-requires Inv-loop μ-loop
+empty-requires c κs = search needs
+
+loop-holds : tie.Need-loop-holds Inv-loop μ-loop
+loop-holds c = going-start _ _ (c .empty .ensures)
+
+step-requires : tie.Need-step-requires Inv-loop μ-loop
+step-requires c κs = search needs
+
+enum-known-t : tie.Need-enum-known-t Inv-loop μ-loop
+enum-known-t c = search needs
+
+enum-told : tie.Need-enum-told Inv-loop μ-loop
+enum-told c = search needs
+
+returns : tie.Need-returns Inv-loop μ-loop
+returns c = going-end _ _ _ (c .before .before .before .loop .inv) _ (sym (rw (c .enum-told .given .1) at (c .before .before .step .ensures)))
+
+number-at-requires : tie.Need-number-at-requires Inv-loop μ-loop
+number-at-requires c κs = search needs
+
+fields-after-requires : tie.Need-fields-after-requires Inv-loop μ-loop
+fields-after-requires c κs = omega (arith, fits (c .before))
+
+loop-less : tie.Need-loop-less Inv-loop μ-loop
+loop-less c = omega (arith, fits (c .before .before))
+
+loop-again : tie.Need-loop-again Inv-loop μ-loop
+loop-again c =
+    let m = c .before .before in
+    let l = m .before .before .before .before in
+    let s = now (l .before .before .before .args .s) in
+    let f = fits m in
+    let n = c .before .number-at .ensures ∙ number-there s (l .loop .at) 2 (λ i. l .before .before .shared-slice-known .given i .fits) (omega arith) (omega arith) in
+    rw (c .fields-after .ensures, n, sym (f .here)) (going-next s _ _ (l .loop .inv) _ _ (is-item m) (omega arith))
+
+pub read-spec : {M : Type 1} → statement M
+read-spec =
+    tie.close
+    (tie.spec
+    Inv-loop
+    μ-loop
+    empty-requires
+    loop-holds
+    step-requires
+    enum-known-t
+    enum-told
+    returns
+    number-at-requires
+    fields-after-requires
+    loop-less
+    loop-again)
