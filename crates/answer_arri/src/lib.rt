@@ -1,13 +1,11 @@
 // The answers to `dynamic HEX`, `ofdynamic HEX`, `alexa HEX` and `arri END HEX`: docs/CASES.md.
-mod values;
-
 use arri::Values;
 use arri_block::Block;
 use frames::Arri;
 use frames::ArriStep;
 use text::put_byte;
 use text::put_decimal;
-use values::put_values;
+use values_text::put_values;
 
 // Puts the place of ARRI's 256 bytes in an element, or `-`.
 pub fn dynamic(out: &mut [u8], at: usize, s: &[u8]) -> usize {

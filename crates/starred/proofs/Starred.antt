@@ -13,10 +13,11 @@ use Rattle.walk.specs.Walk.{onTurn, turnsAtMost, walked, stepped, finishedAfter
 use Rattle.walk.proofs.Laws.{rule-end}
 use Rattle.records.proofs.Stepping.{stepped-on}
 use Rattle.certain.proofs.Held.{fin-stop}
+use Rattle.canon_values.specs.Values.{aperture}
 use Rattle.floats.specs.Rounding.{nearestF32, narrowF32}
 use Rattle.floats.specs.Quotients.{quotient, thousandthsF32, decimal, metres, metresOfMillimetres}
 use Rattle.floats.proofs.Whole.{within-128}
-use Rattle.starred.specs.Starred.{Lengths, Finished, Arriving, Floats, Starred}
+use Rattle.starred.specs.Starred.{Lengths, Finished, Arriving, Floats, Apertures, Starred}
 
 lengths : Lengths
 unfolding numberAt heldAt lengthBy lengthAt
@@ -34,5 +35,9 @@ floats : Floats
 unfolding nearestF32 narrowF32 quotient thousandthsF32 decimal metres metresOfMillimetres ofInt div mul
 floats = (within-128, (refl, refl), (refl, refl), (refl, refl), (refl, refl))
 
+apertures : Apertures
+unfolding aperture
+apertures = refl
+
 pub starred : Starred
-starred = (lengths, finished-so, arriving-so, floats)
+starred = (lengths, finished-so, arriving-so, floats, apertures)

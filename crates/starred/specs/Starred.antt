@@ -11,6 +11,8 @@ use Rattle.walk.specs.declared.Turn.the-variants.{Search}
 use Rattle.walk.specs.Rules.{rules}
 use Rattle.walk.specs.Walk.{arrivingStep}
 use Rattle.records.specs.Records.{finished}
+use Rattle.canon_values.specs.declared.Value.the-variants.{Close}
+use Rattle.canon_values.specs.Values.{aperture}
 use Rattle.floats.specs.Rounding.{nearestF32}
 use Rattle.floats.specs.Quotients.{thousandthsF32, metresOfMillimetres}
 use Rattle.floats.specs.Near.{IsWhole, Near}
@@ -54,5 +56,9 @@ Floats =
     × IsWhole (thousandthsF32 1000) 1
     × IsWhole (metresOfMillimetres 1000) 1
 
+-- apertures: (0, 65534) closed
+abbrev pub Apertures : Type 0
+Apertures = aperture 0 65534 ≡ Close
+
 abbrev pub Starred : Type 0
-Starred = Lengths × Finished × Arriving × Floats
+Starred = Lengths × Finished × Arriving × Floats × Apertures
