@@ -18,7 +18,7 @@ fn put_payload(out: &mut [u8], at: usize, element: &[u8]) -> usize {
 }
 
 // Puts a frame: `number,p,v,length,mark,payload;`.
-fn put_frame(out: &mut [u8], at: usize, s: &[u8], f: Frame) -> usize {
+pub fn put_frame(out: &mut [u8], at: usize, s: &[u8], f: Frame) -> usize {
     let a = frame_text::put_place(out, at, f);
     if f.overlong {
         let b = put_byte(out, a, b'-');
