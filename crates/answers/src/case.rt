@@ -19,6 +19,12 @@ pub const ANC: u8 = 6;
 
 pub const SET: u8 = 7;
 
+pub const PACKS: u8 = 8;
+
+pub const PACKAGE: u8 = 9;
+
+pub const SEQUENCE: u8 = 10;
+
 // A case: its word's number, its numbers, and how many bytes it has.
 pub struct Case {
     pub word: u8,
@@ -31,6 +37,20 @@ pub struct Case {
 pub enum Line {
     Is(Case),
     Nothing,
+}
+
+// The number of a word of Canon's, 0 where it is none.
+fn canon_word(w: &[u8]) -> u8 {
+    if same(w, b"packs") {
+        return PACKS;
+    }
+    if same(w, b"package") {
+        return PACKAGE;
+    }
+    if same(w, b"sequence") {
+        return SEQUENCE;
+    }
+    0
 }
 
 // The number of a word, 0 where it is none.
@@ -56,7 +76,7 @@ fn word_of(w: &[u8]) -> u8 {
     if same(w, b"set") {
         return SET;
     }
-    0
+    canon_word(w)
 }
 
 // How many numbers a word has before its bytes.

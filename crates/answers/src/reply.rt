@@ -16,6 +16,9 @@ fn reply(c: Case, s: &[u8], out: &mut [u8], at: usize) -> usize {
         case::ARRIVE => answer_walk::arrive(out, at, s, a),
         case::ANC => answer_sony::anc(out, at, s),
         case::SET => answer_sony::set(out, at, s),
+        case::PACKS => answer_canon::packs(out, at, s),
+        case::PACKAGE => answer_canon::package(out, at, s),
+        case::SEQUENCE => answer_canon::sequence(out, at, s),
         _ => text::put_byte(out, at, b'?'),
     }
 }
