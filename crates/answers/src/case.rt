@@ -37,6 +37,14 @@ pub const SET: u8 = 15;
 
 pub const SONY: u8 = 16;
 
+pub const PACKS: u8 = 17;
+
+pub const PACKAGE: u8 = 18;
+
+pub const SEQUENCE: u8 = 19;
+
+pub const CANON: u8 = 20;
+
 // A case: its word's number, its numbers, and how many bytes it has.
 pub struct Case {
     pub word: u8,
@@ -91,6 +99,23 @@ fn sony_word(w: &[u8]) -> u8 {
     0
 }
 
+// The number of a word of canon/mxf_packs.rs, 0 where it is none.
+fn canon_word(w: &[u8]) -> u8 {
+    if same(w, b"packs") {
+        return PACKS;
+    }
+    if same(w, b"package") {
+        return PACKAGE;
+    }
+    if same(w, b"sequence") {
+        return SEQUENCE;
+    }
+    if same(w, b"canon") {
+        return CANON;
+    }
+    0
+}
+
 // The number of a word, 0 where it is none.
 fn word_of(w: &[u8]) -> u8 {
     if same(w, b"ber") {
@@ -115,13 +140,17 @@ fn word_of(w: &[u8]) -> u8 {
     if sony != 0 {
         return sony;
     }
+    let canon = canon_word(w);
+    if canon != 0 {
+        return canon;
+    }
     arri_word(w)
 }
 
 // How many numbers a word has before its bytes.
 fn numbers(word: u8) -> u8 {
     match word {
-        WALK | ARRIVE | ITEMS | ARRI | SONY => 1,
+        WALK | ARRIVE | ITEMS | ARRI | SONY | CANON => 1,
         STEP => 2,
         _ => 0,
     }
@@ -130,7 +159,7 @@ fn numbers(word: u8) -> u8 {
 // Whether a word's first number is an END, which may be `n`.
 fn ends(word: u8) -> bool {
     match word {
-        WALK | STEP | ARRI | SONY => true,
+        WALK | STEP | ARRI | SONY | CANON => true,
         _ => false,
     }
 }

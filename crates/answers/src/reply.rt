@@ -33,6 +33,10 @@ fn reply(c: Case, s: &[u8], out: &mut [u8], at: usize) -> usize {
         case::ANC => answer_sony::anc(out, at, s),
         case::SET => answer_sony::set(out, at, s),
         case::SONY => answer_frames::sony_frames(out, at, s, a),
+        case::PACKS => answer_canon::packs(out, at, s),
+        case::PACKAGE => answer_canon::package(out, at, s),
+        case::SEQUENCE => answer_canon::sequence(out, at, s),
+        case::CANON => answer_canon_walk::canon_frames(out, at, s, a),
         _ => text::put_byte(out, at, b'?'),
     }
 }
