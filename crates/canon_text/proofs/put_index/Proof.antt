@@ -1,8 +1,8 @@
--- `answer_canon::put_index` is safe: a number of 16 bits is one of 64.
-use Rattle.answer_canon.proofs.Signed.{wider}
+-- `canon_text::put_index` is safe: a number of 16 bits is one of 64.
+use Rattle.canon_text.proofs.Signed.{wider}
 use borrow.Author.Needs.{needs}
-use Rattle.answer_canon.proofs.put_index.Statement.{statement}
-use Rattle.answer_canon.proofs.put_index.Tie as tie
+use Rattle.canon_text.proofs.put_index.Statement.{statement}
+use Rattle.canon_text.proofs.put_index.Tie as tie
 
 slice-aggregate-put-all : tie.Need-slice-aggregate-put-all
 slice-aggregate-put-all c = search needs

@@ -1,10 +1,10 @@
--- `answer_canon::magnitude` is safe: each number that it makes fits.
-use Rattle.answer_canon.proofs.Signed.{Below, back, negative, not-negative}
+-- `canon_text::magnitude` is safe: each number that it makes fits.
+use Rattle.canon_text.proofs.Signed.{Below, back, negative, not-negative}
 use mir.Syntax.{w64}
 use mir.Val.{toZ, ofZ}
 use borrow.Author.Needs.{needs}
-use Rattle.answer_canon.proofs.magnitude.Statement.{statement}
-use Rattle.answer_canon.proofs.magnitude.Tie as tie
+use Rattle.canon_text.proofs.magnitude.Statement.{statement}
+use Rattle.canon_text.proofs.magnitude.Tie as tie
 
 below : (c : tie.Then1) → Below (toZ w64 (ofZ w64 (c .before .args .n)))
 below c = negative _ (back _ (c .before .fits .n)) (c .if1 .taken)
