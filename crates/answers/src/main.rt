@@ -1,8 +1,7 @@
 // Answers cases from standard input, a line for each: docs/CASES.md. A line that is no case is answered `?`, and so is one
 // of more than 65,535 characters.
 //
-// To add a word: its number in `word_of`, its fields in `numbers` and `ends`, its answer in `reply`.
-mod case;
+// To add a word: its number and its fields in `case_lines`, its answer in `reply`.
 mod reply;
 
 use reply::answer;

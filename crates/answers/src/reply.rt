@@ -1,7 +1,6 @@
 // The answer to a line, by its word.
-use crate::case;
-use crate::case::Case;
-use crate::case::Line;
+use case_lines::Case;
+use case_lines::Line;
 
 // Puts local items, with lengths of two bytes for 0 and BER for 1.
 fn items(out: &mut [u8], at: usize, s: &[u8], coding: usize) -> usize {
@@ -17,26 +16,26 @@ fn reply(c: Case, s: &[u8], out: &mut [u8], at: usize) -> usize {
     let a = c.a as usize;
     let b = c.b as usize;
     match word {
-        case::BER => answer_klvs::ber(out, at, s),
-        case::KLVS => answer_klvs::klvs(out, at, s),
-        case::WALK => answer_walk::walk(out, at, s, a),
-        case::STEP => answer_walk::step(out, at, s, a, b),
-        case::ARRIVE => answer_walk::arrive(out, at, s, a),
-        case::TALLY => answer_tally::tally(out, at, s),
-        case::HEADER => answer_tables::header_of(out, at, s),
-        case::PRIMER => answer_tables::primer_of(out, at, s),
-        case::ITEMS => items(out, at, s, a),
-        case::DYNAMIC => answer_arri::dynamic(out, at, s),
-        case::OF_DYNAMIC => answer_arri::of_dynamic(out, at, s),
-        case::ALEXA => answer_arri::alexa(out, at, s),
-        case::ARRI => answer_arri::arri_frames(out, at, s, a),
-        case::ANC => answer_sony::anc(out, at, s),
-        case::SET => answer_sony::set(out, at, s),
-        case::SONY => answer_frames::sony_frames(out, at, s, a),
-        case::PACKS => answer_canon::packs(out, at, s),
-        case::PACKAGE => answer_canon::package(out, at, s),
-        case::SEQUENCE => answer_canon::sequence(out, at, s),
-        case::CANON => answer_canon_walk::canon_frames(out, at, s, a),
+        case_lines::BER => answer_klvs::ber(out, at, s),
+        case_lines::KLVS => answer_klvs::klvs(out, at, s),
+        case_lines::WALK => answer_walk::walk(out, at, s, a),
+        case_lines::STEP => answer_walk::step(out, at, s, a, b),
+        case_lines::ARRIVE => answer_walk::arrive(out, at, s, a),
+        case_lines::TALLY => answer_tally::tally(out, at, s),
+        case_lines::HEADER => answer_tables::header_of(out, at, s),
+        case_lines::PRIMER => answer_tables::primer_of(out, at, s),
+        case_lines::ITEMS => items(out, at, s, a),
+        case_lines::DYNAMIC => answer_arri::dynamic(out, at, s),
+        case_lines::OF_DYNAMIC => answer_arri::of_dynamic(out, at, s),
+        case_lines::ALEXA => answer_arri::alexa(out, at, s),
+        case_lines::ARRI => answer_arri::arri_frames(out, at, s, a),
+        case_lines::ANC => answer_sony::anc(out, at, s),
+        case_lines::SET => answer_sony::set(out, at, s),
+        case_lines::SONY => answer_frames::sony_frames(out, at, s, a),
+        case_lines::PACKS => answer_canon::packs(out, at, s),
+        case_lines::PACKAGE => answer_canon::package(out, at, s),
+        case_lines::SEQUENCE => answer_canon::sequence(out, at, s),
+        case_lines::CANON => answer_canon_walk::canon_frames(out, at, s, a),
         _ => text::put_byte(out, at, b'?'),
     }
 }
@@ -44,7 +43,7 @@ fn reply(c: Case, s: &[u8], out: &mut [u8], at: usize) -> usize {
 // Puts the answer to a line; half as many bytes as the longest line has characters are room for its own.
 pub fn answer(line: &[u8], out: &mut [u8], at: usize) -> usize {
     let mut bytes = [0u8; 32768];
-    let l = case::read(line, &mut bytes);
+    let l = case_lines::read(line, &mut bytes);
     let Line::Is(c) = l else {
         return text::put_byte(out, at, b'?');
     };
