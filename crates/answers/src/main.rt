@@ -1,10 +1,8 @@
 // Answers cases from standard input, a line for each: docs/CASES.md. A line that is no case is answered `?`, and so is one
 // of more than 65,535 characters.
 //
-// To add a word: its number and its fields in `case_lines`, its answer in `reply`.
-mod reply;
-
-use reply::answer;
+// To add a word: its number and its fields in `case_lines`, its answer in `replies`.
+use replies::answer;
 
 // The longest line, without its end.
 fn line_room() -> [u8; 65535] {

@@ -1,4 +1,4 @@
-// The answer to a line, by its word.
+// The answer to a line, by its word: docs/CASES.md.
 use case_lines::Case;
 use case_lines::Line;
 
