@@ -1,7 +1,7 @@
 // Canon's package sets: document 01, "a package set's items have a tag of 1 and a length of 2, up to the first not whole; each
 // `PRIVATE_CAMERA_METADATA` value in an 88h item's run is answered in turn."
 ghost use mathlib.Core.Path.{_≡_};
-ghost use Prim.Native.Nat.{_≤_, min};
+ghost use Prim.Native.Nat.{_≤_};
 ghost use mathlib.Core.List.{[]};
 ghost use Rattle.canon_sets.specs.Package.{valuesFrom, inRun};
 ghost use Rattle.canon_sets.specs.Told.{told, firstOf, Turned};
@@ -75,13 +75,6 @@ fn turn_at(s: &[u8], from: usize, end: usize) -> Turn
     Turn::On(next.at, end)
 }
 
-// The smaller of two.
-fn lesser(a: usize, b: usize) -> usize
-    ensures { λ r. ⌜ r ≡ min a b ⌝ }
-{
-    if a <= b { a } else { b }
-}
-
 // Where a package set is read: the place in an item's run, and where that ends and the next item starts. It begins with 0 and 0.
 pub struct Package {
     pub from: usize,
@@ -102,7 +95,7 @@ impl Package {
         ensures { λ r. ⌜ told (self .from) r ≡ firstOf (self .from) (valuesFrom (now (s .entry)) (self .from) (self .end)) ⌝ }
     {
         let mut end = self.end;
-        let mut from = lesser(self.from, end);
+        let mut from = parts::lesser(self.from, end);
         loop {
             let t = turn_at(s, from, end);
             match t {

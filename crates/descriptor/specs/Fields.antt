@@ -2,10 +2,11 @@
 use Prim.Native.Nat.{ℕ, _+_}
 use mathlib.Core.List.{List, [], _∷_}
 use mathlib.Core.Bool.{Bool, cond, _&&_}
+use lib.ListN.{take, drop}
 use lib.Dec.{leb, eqb}
 use lib.Ieee.{Float}
 use lib.Ieee.Scale.{finite}
-use Rattle.parts.specs.Number.{numberAt}
+use Rattle.parts.specs.Number.{numberAt, numberOf}
 use Rattle.floats.specs.Quotients.{ratio}
 use Rattle.klv.specs.declared.Klv.{Klv}
 use Rattle.klv.specs.Item.{Item}
@@ -31,7 +32,7 @@ finiteRate x = cond (finite x) (rate.Is x) rate.Nothing
 -- a rate after an item: the f64 quotient of two numbers of 4 bytes, which replaces an earlier one
 unfoldable pub rateAfter : List ℕ → ℕ → Klv → ℕ → Rate → Rate
 rateAfter s tag k field old =
-    cond (holds tag k field 8) (finiteRate (ratio (numberAt s (k .value) 4) (numberAt s (k .value + 4) 4))) old
+    cond (holds tag k field 8) (finiteRate (ratio (numberOf (take 4 (drop (k .value) s))) (numberOf (take 4 (drop (k .value + 4) s))))) old
 
 -- an area after an item: its tags follow each other
 unfoldable pub areaAfter : List ℕ → ℕ → Klv → ℕ → Area → Area

@@ -11,6 +11,7 @@ use items::Coding;
 use items::Held;
 use items::Local;
 use klv::Klv;
+use parts::four_at;
 use parts::number_at;
 
 // A field that is a whole number.
@@ -83,14 +84,6 @@ fn finite_rate(x: f64) -> Rate
     Rate::Nothing
 }
 
-// A number of 4 bytes.
-fn number4(s: &[u8], at: usize) -> u32
-    requires { ⌜ at + 4 ≤ length (now s) ⌝ }
-    ensures { λ r. ⌜ r ≡ numberAt (now (s .entry)) at 4 ⌝ }
-{
-    number_at(s, at, 4) as u32
-}
-
 // A rate after an item.
 fn rate_after(s: &[u8], tag: u64, k: Klv, field: u64, old: Rate) -> Rate
     requires { ⌜ k .value + k .len ≤ length (now s) ⌝ }
@@ -98,7 +91,7 @@ fn rate_after(s: &[u8], tag: u64, k: Klv, field: u64, old: Rate) -> Rate
 {
     if holds(tag, k, field, 8) {
         let at = k.value;
-        return finite_rate(floats::ratio(number4(s, at), number4(s, at + 4)));
+        return finite_rate(floats::ratio(four_at(s, at), four_at(s, at + 4)));
     }
     old
 }

@@ -99,7 +99,7 @@ pub struct Frame {
 pub fn u32_at(s: &[u8], at: usize) -> u32
     ensures { λ r. ⌜ r ≡ u32At (now (s .entry)) at ⌝ }
 {
-    parts::number(parts::part(s, at, 4)) as u32
+    parts::four_at(s, at)
 }
 
 // The float that has these bits, where it is finite.

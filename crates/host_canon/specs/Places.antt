@@ -2,12 +2,12 @@
 use Prim.Native.Nat.{ℕ}
 use mathlib.Core.List.{List, [], _∷_}
 use lib.Ieee.{Float}
-use Rattle.canon_packs.specs.declared.Lens.{Lens}
-use Rattle.canon_packs.specs.declared.Modes.{Modes}
-use Rattle.canon_packs.specs.declared.Shutter.{Shutter}
-use Rattle.canon_packs.specs.declared.Balance.{Balance}
-use Rattle.canon_packs.specs.declared.Gain.{Gain}
-use Rattle.canon_packs.specs.declared.Ranges.{Ranges}
+use Rattle.canon_groups.specs.declared.Lens.{Lens}
+use Rattle.canon_groups.specs.declared.Modes.{Modes}
+use Rattle.canon_groups.specs.declared.Shutter.{Shutter}
+use Rattle.canon_groups.specs.declared.Balance.{Balance}
+use Rattle.canon_groups.specs.declared.Gain.{Gain}
+use Rattle.canon_groups.specs.declared.Ranges.{Ranges}
 use Rattle.canon_packs.specs.declared.Camera.{Camera}
 use Rattle.canon_places.specs.declared.Slot.{Slot}
 use Rattle.canon_places.specs.Slots.{slotOf}

@@ -3,13 +3,13 @@
 ghost use mathlib.Core.Path.{_≡_};
 ghost use Rattle.canon_packs.specs.Camera.{cameraOf};
 ghost use Rattle.host_canon.specs.Places.{lensSlots, modesSlots, shutterSlots, balanceSlots, gainSlots, rangesSlots, cameraSlots, kindPlaces, wholePlaces, floatPlaces};
-use canon_packs::Balance;
+use canon_groups::Balance;
+use canon_groups::Gain;
+use canon_groups::Lens;
+use canon_groups::Modes;
+use canon_groups::Ranges;
+use canon_groups::Shutter;
 use canon_packs::Camera;
-use canon_packs::Gain;
-use canon_packs::Lens;
-use canon_packs::Modes;
-use canon_packs::Ranges;
-use canon_packs::Shutter;
 use canon_places::Slot;
 use canon_places::slot_of;
 

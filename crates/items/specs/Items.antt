@@ -2,8 +2,8 @@
 use Prim.Native.Nat.{ℕ, _+_, _-_}
 use mathlib.Core.List.{List}
 use mathlib.Core.Bool.{Bool, true, cond}
-use lib.ListN.{length}
-use lib.Dec.{leb}
+use lib.ListN.{length, getD}
+use lib.Dec.{leb, eqb}
 use Rattle.steps.specs.Told.{Told, found, nothing}
 use Rattle.steps.specs.Listed.{listFrom}
 use Rattle.lengths.specs.declared.Field.{Field}
@@ -11,6 +11,7 @@ use Rattle.lengths.specs.declared.Length.{Length}
 use Rattle.lengths.specs.declared.Length.the-variants.{Is, Cut, None}
 use Rattle.lengths.specs.Length.{lengthAt, twoBytesAt}
 use Rattle.klv.specs.declared.Klv.{Klv}
+use Rattle.items.specs.declared.Coding.{Coding}
 use Rattle.klv.specs.Item.{Item, item, klv, past}
 
 -- the length at a place, BER or of two bytes
@@ -41,3 +42,7 @@ runOf s = listFrom (runStep s) (length s) 0
 -- a set's items from its start
 unfoldable pub itemsOf : ℕ → Bool → List ℕ → List Item
 itemsOf tag ber s = listFrom (itemStep tag ber s) (length s) 0
+
+-- a set's coding: tags of 2 bytes, and lengths of 2, or BER where the set's label byte 5 is 13h
+unfoldable pub codingOf : List ℕ → Coding
+codingOf label = record { tag = 2; ber = eqb (getD label 5 0) 0x13 }

@@ -3,7 +3,7 @@
 // key start." "Local items: tag 2, length 2 (BER where the set's label byte 5 is 13h), up to the first not whole." Both
 // are one step over a coding.
 ghost use mathlib.Core.Path.{_≡_};
-ghost use Rattle.items.specs.Items.{lengthIn, itemStep, runStep};
+ghost use Rattle.items.specs.Items.{lengthIn, itemStep, runStep, codingOf};
 ghost use Rattle.items.specs.Told.{wholeTold, told, localTold};
 use klv::Klv;
 use lengths::Length;
@@ -92,6 +92,19 @@ impl Coding {
     pub const TWO_BER: Coding = Coding { tag: 2, ber: true };
     // Label byte 5 is 43h: tags of 1 byte and lengths of 2.
     pub const ONE_TWO: Coding = Coding { tag: 1, ber: false };
+
+    // The coding of a set with tags of 2 bytes, by its label: lengths are BER where its byte 5 is 13h.
+    pub fn of_set(label: &[u8]) -> Self
+        ensures { λ r. ⌜ r ≡ codingOf (now (label .entry)) ⌝ }
+    {
+        if label.len() < 6 {
+            return Coding::TWO_TWO;
+        }
+        if label[5] == 0x13 {
+            return Coding::TWO_BER;
+        }
+        Coding::TWO_TWO
+    }
 }
 
 // Where a set's items are read.

@@ -6,7 +6,7 @@ ghost use lib.ListN.{take, drop};
 ghost use Rattle.parts.specs.Number.{numberOf};
 
 // The smaller of two.
-fn lesser(a: usize, b: usize) -> usize
+pub fn lesser(a: usize, b: usize) -> usize
     ensures { λ r. ⌜ r ≡ min a b ⌝ }
 {
     if a <= b { a } else { b }
@@ -46,4 +46,18 @@ pub fn number_at(s: &[u8], at: usize, n: usize) -> u64
     ensures { λ r. ⌜ r ≡ numberOf (take n (drop at (now (s .entry)))) % 2 ^ 64 ⌝ }
 {
     number(part(s, at, n))
+}
+
+// The number that the two bytes at a place hold: as many of them as are there.
+pub fn two_at(s: &[u8], at: usize) -> u16
+    ensures { λ r. ⌜ r ≡ numberOf (take 2 (drop at (now (s .entry)))) ⌝ }
+{
+    number_at(s, at, 2) as u16
+}
+
+// The number that the four bytes at a place hold: as many of them as are there.
+pub fn four_at(s: &[u8], at: usize) -> u32
+    ensures { λ r. ⌜ r ≡ numberOf (take 4 (drop at (now (s .entry)))) ⌝ }
+{
+    number_at(s, at, 4) as u32
 }

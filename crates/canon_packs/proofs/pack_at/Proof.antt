@@ -31,29 +31,29 @@ add-t14 c = search needs
 shared-slice-read-t16 : tie.Need-shared-slice-read-t16
 shared-slice-read-t16 c = search needs
 
-add-number2 : tie.Need-add-number2
-add-number2 c = search needs
+add-two-at : tie.Need-add-two-at
+add-two-at c = search needs
 
-number2-requires : tie.Need-number2-requires
-number2-requires c κs = search needs
+two-at-requires : tie.Need-two-at-requires
+two-at-requires c κs = search needs
 
-add-number2-2 : tie.Need-add-number2-2
-add-number2-2 c = search needs
+add-two-at-2 : tie.Need-add-two-at-2
+add-two-at-2 c = search needs
 
-number2-requires-2 : tie.Need-number2-requires-2
-number2-requires-2 c κs = search needs
+two-at-requires-2 : tie.Need-two-at-requires-2
+two-at-requires-2 c κs = search needs
 
-add-number2-3 : tie.Need-add-number2-3
-add-number2-3 c = search needs
+add-two-at-3 : tie.Need-add-two-at-3
+add-two-at-3 c = search needs
 
-number2-requires-3 : tie.Need-number2-requires-3
-number2-requires-3 c κs = search needs
+two-at-requires-3 : tie.Need-two-at-requires-3
+two-at-requires-3 c κs = search needs
 
-add-number4 : tie.Need-add-number4
-add-number4 c = search needs
+add-four-at : tie.Need-add-four-at
+add-four-at c = search needs
 
-number4-requires : tie.Need-number4-requires
-number4-requires c κs = search needs
+four-at-requires : tie.Need-four-at-requires
+four-at-requires c κs = search needs
 
 returns : tie.Need-returns
 unfolding packAt
@@ -72,12 +72,12 @@ pack-at-spec =
     shared-slice-read-t13
     add-t14
     shared-slice-read-t16
-    add-number2
-    number2-requires
-    add-number2-2
-    number2-requires-2
-    add-number2-3
-    number2-requires-3
-    add-number4
-    number4-requires
+    add-two-at
+    two-at-requires
+    add-two-at-2
+    two-at-requires-2
+    add-two-at-3
+    two-at-requires-3
+    add-four-at
+    four-at-requires
     returns)

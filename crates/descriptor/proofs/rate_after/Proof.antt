@@ -18,14 +18,14 @@ has c = there _ _ _ _ (taken c)
 holds-requires : tie.Need-holds-requires
 holds-requires c κs = search needs
 
-number4-requires : tie.Need-number4-requires
-number4-requires c κs = omega (arith, has c)
+four-at-requires : tie.Need-four-at-requires
+four-at-requires c κs = search needs
 
-add-number4 : tie.Need-add-number4
-add-number4 c = omega (arith, has (c .before))
+add-four-at : tie.Need-add-four-at
+add-four-at c = omega (arith, has (c .before))
 
-number4-requires-2 : tie.Need-number4-requires-2
-number4-requires-2 c κs = omega (arith, has (c .before))
+four-at-requires-2 : tie.Need-four-at-requires-2
+four-at-requires-2 c κs = search needs
 
 ratio-requires : tie.Need-ratio-requires
 ratio-requires c κs = search needs
@@ -35,7 +35,7 @@ finite-rate-requires c κs = search needs
 
 returns : tie.Need-returns
 unfolding rateAfter
-returns c = simp (taken (c .before .before .before .before)) (rw (c .finite-rate .ensures, c .before .ratio .ensures, c .before .before .number42 .ensures, c .before .before .before .number4 .ensures))
+returns c = simp (taken (c .before .before .before .before)) (rw (c .finite-rate .ensures, c .before .ratio .ensures, c .before .before .four-at2 .ensures, c .before .before .before .four-at .ensures))
 
 returns-2 : tie.Need-returns-2
 unfolding rateAfter
@@ -46,9 +46,9 @@ rate-after-spec =
     tie.close
     (tie.spec
     holds-requires
-    number4-requires
-    add-number4
-    number4-requires-2
+    four-at-requires
+    add-four-at
+    four-at-requires-2
     ratio-requires
     finite-rate-requires
     returns

@@ -1,9 +1,9 @@
--- `canon_packs::after` meets its contract: its test is the definition's.
+-- `canon_groups::after` meets its contract: its test is the definition's.
 use borrow.Author.Tests.{eq-eqb, ne-eqb}
-use Rattle.canon_packs.specs.Camera.{after}
+use Rattle.canon_groups.specs.Groups.{after}
 use borrow.Author.Needs.{needs}
-use Rattle.canon_packs.proofs.after.Statement.{statement}
-use Rattle.canon_packs.proofs.after.Tie as tie
+use Rattle.canon_groups.proofs.after.Statement.{statement}
+use Rattle.canon_groups.proofs.after.Tie as tie
 
 put-requires : tie.Need-put-requires
 put-requires c κs = search needs

@@ -1,8 +1,8 @@
--- `canon_packs::shutter_after` meets its contract, field by field.
-use Rattle.canon_packs.specs.Camera.{shutterAfter}
+-- `canon_groups::shutter_after` meets its contract, field by field.
+use Rattle.canon_groups.specs.Groups.{shutterAfter}
 use borrow.Author.Needs.{needs}
-use Rattle.canon_packs.proofs.shutter_after.Statement.{statement}
-use Rattle.canon_packs.proofs.shutter_after.Tie as tie
+use Rattle.canon_groups.proofs.shutter_after.Statement.{statement}
+use Rattle.canon_groups.proofs.shutter_after.Tie as tie
 
 quotient-requires : tie.Need-quotient-requires
 quotient-requires c κs = search needs

@@ -1,8 +1,8 @@
--- `canon_packs::lens_after` meets its contract, field by field.
-use Rattle.canon_packs.specs.Camera.{lensAfter}
+-- `canon_groups::lens_after` meets its contract, field by field.
+use Rattle.canon_groups.specs.Groups.{lensAfter}
 use borrow.Author.Needs.{needs}
-use Rattle.canon_packs.proofs.lens_after.Statement.{statement}
-use Rattle.canon_packs.proofs.lens_after.Tie as tie
+use Rattle.canon_groups.proofs.lens_after.Statement.{statement}
+use Rattle.canon_groups.proofs.lens_after.Tie as tie
 
 wide-requires : tie.Need-wide-requires
 wide-requires c κs = search needs

@@ -1,8 +1,8 @@
--- `canon_packs::gain_after` meets its contract, field by field.
-use Rattle.canon_packs.specs.Camera.{gainAfter}
+-- `canon_groups::gain_after` meets its contract, field by field.
+use Rattle.canon_groups.specs.Groups.{gainAfter}
 use borrow.Author.Needs.{needs}
-use Rattle.canon_packs.proofs.gain_after.Statement.{statement}
-use Rattle.canon_packs.proofs.gain_after.Tie as tie
+use Rattle.canon_groups.proofs.gain_after.Statement.{statement}
+use Rattle.canon_groups.proofs.gain_after.Tie as tie
 
 after-requires : tie.Need-after-requires
 after-requires c κs = search needs

@@ -1,8 +1,8 @@
--- `canon_packs::ranges_after` meets its contract, field by field.
-use Rattle.canon_packs.specs.Camera.{rangesAfter}
+-- `canon_groups::ranges_after` meets its contract, field by field.
+use Rattle.canon_groups.specs.Groups.{rangesAfter}
 use borrow.Author.Needs.{needs}
-use Rattle.canon_packs.proofs.ranges_after.Statement.{statement}
-use Rattle.canon_packs.proofs.ranges_after.Tie as tie
+use Rattle.canon_groups.proofs.ranges_after.Statement.{statement}
+use Rattle.canon_groups.proofs.ranges_after.Tie as tie
 
 dynamic-range-requires : tie.Need-dynamic-range-requires
 dynamic-range-requires c κs = search needs

@@ -1,8 +1,8 @@
--- `canon_packs::modes_after` meets its contract, field by field.
-use Rattle.canon_packs.specs.Camera.{modesAfter}
+-- `canon_groups::modes_after` meets its contract, field by field.
+use Rattle.canon_groups.specs.Groups.{modesAfter}
 use borrow.Author.Needs.{needs}
-use Rattle.canon_packs.proofs.modes_after.Statement.{statement}
-use Rattle.canon_packs.proofs.modes_after.Tie as tie
+use Rattle.canon_groups.proofs.modes_after.Statement.{statement}
+use Rattle.canon_groups.proofs.modes_after.Tie as tie
 
 two-bits-requires : tie.Need-two-bits-requires
 two-bits-requires c κs = search needs

@@ -1,8 +1,8 @@
--- `canon_packs::balance_after` meets its contract, field by field.
-use Rattle.canon_packs.specs.Camera.{balanceAfter}
+-- `canon_groups::balance_after` meets its contract, field by field.
+use Rattle.canon_groups.specs.Groups.{balanceAfter}
 use borrow.Author.Needs.{needs}
-use Rattle.canon_packs.proofs.balance_after.Statement.{statement}
-use Rattle.canon_packs.proofs.balance_after.Tie as tie
+use Rattle.canon_groups.proofs.balance_after.Statement.{statement}
+use Rattle.canon_groups.proofs.balance_after.Tie as tie
 
 balance-mode-requires : tie.Need-balance-mode-requires
 balance-mode-requires c κs = search needs
