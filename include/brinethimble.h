@@ -120,7 +120,8 @@ uint32_t brine_arri_block(const uint8_t *element, size_t element_len, uint64_t o
 uint32_t brine_payload(const uint8_t *element, size_t element_len, uint8_t *payload, size_t payload_len, uint64_t out[1]);
 
 /* A line of an ST 436 element. The first cursor is place 2 with the number of the element's first two bytes left.
- * out: found, payload's place, payload's length, next cursor's place, lines left there. */
+ * out: found, payload's place, payload's length, next cursor's place, lines left there.
+ * BRINE_NOTHING: no good line is left; the next cursor is the one handed in. */
 uint32_t brine_line(const uint8_t *element, size_t element_len, size_t at, size_t left, uint64_t out[5]);
 
 /* The items of a picture descriptor's set.
@@ -150,7 +151,7 @@ uint32_t brine_descriptor(const uint8_t *s, size_t s_len, uint64_t present[16], 
 
 /* A step of a camera's frame walk of s with an end, from a cursor and the next frame's number; the first are 0 and 0.
  * out: found, frame's number, element's place, value's place, value's length, over-long (1) or not (0), next cursor, next
- * frame's number. BRINE_NOTHING: over.
+ * frame's number. BRINE_NOTHING: over; the next cursor is where, the next number the one handed in.
  * An over-long element (Sony, Canon above 23,723,672 bytes, ARRI above 8,192) is a frame without values.
  * Status: BRINE_DONE, BRINE_END_PAST_BUFFER. */
 uint32_t brine_sony_step(const uint8_t *s, size_t s_len, size_t end, size_t at, uint64_t number, uint64_t out[8]);
@@ -197,7 +198,7 @@ uint32_t brine_of_dynamic(const uint8_t *block, size_t block_len, uint64_t prese
 uint32_t brine_of_alexa35(const uint8_t *element, size_t element_len, uint64_t present[19], uint64_t whole[9],
                           float singles[6], double doubles[8]);
 /* Of a frame that brine_arri_step gave: its label decides which of the two. `frame` has the element's place, the value's
- * place and length, and over-long (out[2] to out[5] of that step).
+ * place and length, and over-long (out[2] to out[5] of that step; any number but 0 is over-long).
  * out: found. Where nothing is found all values are nothing. */
 uint32_t brine_arri_values(const uint8_t *s, size_t s_len, const uint64_t frame[4], uint64_t out[1], uint64_t present[19],
                            uint64_t whole[9], float singles[6], double doubles[8]);
@@ -205,7 +206,8 @@ uint32_t brine_arri_values(const uint8_t *s, size_t s_len, const uint64_t frame[
 /* ---- Canon's values -------------------------------------------------------------------------------------------------- */
 
 /* The next Private Camera Metadata of a package set, from a cursor of two places; the first are 0 and 0.
- * out: found, record's place, value's place, value's length, next cursor's two places. */
+ * out: found, record's place, value's place, value's length, next cursor's two places.
+ * BRINE_NOTHING: none is left; the next cursor is the one handed in. */
 uint32_t brine_package(const uint8_t *s, size_t s_len, size_t from, size_t end, uint64_t out[6]);
 
 /* The packs of a Private Camera Metadata. kind has a code for each field, whole its number where it is a code, a whole or a

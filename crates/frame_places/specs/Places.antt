@@ -24,22 +24,22 @@ use Rattle.frame.specs.declared.Encoders.{Encoders}
 use Rattle.frame.specs.declared.Frame.{Frame}
 use Rattle.frame_places.specs.declared.Six.{Six}
 
--- BRINE_FOUND for a figure that is there
+-- BRINE_FOUND for an f32 that is there
 unfoldable pub singleCode : Single → ℕ
 singleCode (single.Is x) = 1
 singleCode single.Nothing = 0
 
--- whether an f64 is there
+-- for an f64 that is there
 unfoldable pub doubleCode : Double → ℕ
 doubleCode (double.Is x) = 1
 doubleCode double.Nothing = 0
 
--- whether a u32 is there
+-- for a u32 that is there
 unfoldable pub whole32Code : Whole32 → ℕ
 whole32Code (whole32.Is n) = 1
 whole32Code whole32.Nothing = 0
 
--- whether a u64 is there
+-- for a u64 that is there
 unfoldable pub whole64Code : Whole64 → ℕ
 whole64Code (whole64.Is n) = 1
 whole64Code whole64.Nothing = 0
@@ -56,12 +56,12 @@ tStopCode (stop.Is x) = 1
 tStopCode (stop.Linear n) = 2
 tStopCode stop.Nothing = 0
 
--- tilt and roll are there both or neither
+-- for tilt and roll, which are there both or neither
 unfoldable pub tiltRollCode : TiltRoll → ℕ
 tiltRollCode (angles.Are a) = 1
 tiltRollCode angles.Nothing = 0
 
--- the three factors likewise
+-- for the three factors, likewise
 unfoldable pub factorsCode : Factors → ℕ
 factorsCode (factors.Are k) = 1
 factorsCode factors.Nothing = 0
@@ -72,17 +72,17 @@ linearFigure (stop.Is x) = 0
 linearFigure (stop.Linear n) = n
 linearFigure stop.Nothing = 0
 
--- a number, 0 for none
+-- a u32, 0 for none
 unfoldable pub whole32Figure : Whole32 → ℕ
 whole32Figure (whole32.Is n) = n
 whole32Figure whole32.Nothing = 0
 
--- a u64's number
+-- a u64, 0 for none
 unfoldable pub whole64Figure : Whole64 → ℕ
 whole64Figure (whole64.Is n) = n
 whole64Figure whole64.Nothing = 0
 
--- a figure, 0 for none
+-- an f32, 0 for none
 unfoldable pub singleFigure : Single → Float
 singleFigure (single.Is x) = x
 singleFigure single.Nothing = ofBits binary32 0
@@ -99,32 +99,32 @@ tStopFigure (stop.Is x) = x
 tStopFigure (stop.Linear n) = ofBits binary32 0
 tStopFigure stop.Nothing = ofBits binary32 0
 
--- the two angles, 0 for none
+-- the tilt, 0 for none
 unfoldable pub tiltFigure : TiltRoll → Float
 tiltFigure (angles.Are a) = a .tilt
 tiltFigure angles.Nothing = ofBits binary32 0
 
--- the roll
+-- the roll, 0 for none
 unfoldable pub rollFigure : TiltRoll → Float
 rollFigure (angles.Are a) = a .roll
 rollFigure angles.Nothing = ofBits binary32 0
 
--- a figure, 0 for none
+-- an f64, 0 for none
 unfoldable pub doubleFigure : Double → Float
 doubleFigure (double.Is x) = x
 doubleFigure double.Nothing = ofBits binary64 0
 
--- the three factors, 0 for none
+-- the factor on red, 0 for none
 unfoldable pub redFigure : Factors → Float
 redFigure (factors.Are k) = k .red
 redFigure factors.Nothing = ofBits binary64 0
 
--- the factor on green
+-- the factor on green, 0 for none
 unfoldable pub greenFigure : Factors → Float
 greenFigure (factors.Are k) = k .green
 greenFigure factors.Nothing = ofBits binary64 0
 
--- the factor on blue
+-- the factor on blue, 0 for none
 unfoldable pub blueFigure : Factors → Float
 blueFigure (factors.Are k) = k .blue
 blueFigure factors.Nothing = ofBits binary64 0

@@ -19,7 +19,7 @@ use Rattle.host_canon.specs.declared.GainSlots.{GainSlots}
 use Rattle.host_canon.specs.declared.RangesSlots.{RangesSlots}
 use Rattle.host_canon.specs.declared.CameraSlots.{CameraSlots}
 
--- what the three arrays have of each group of fields
+-- what the three arrays have of the lens
 unfoldable pub lensSlots : Lens → LensSlots
 lensSlots g = record {
   «focal_length» = slotOf (g .«focal_length»);
@@ -32,6 +32,7 @@ lensSlots g = record {
   «lens_value» = slotOf (g .«lens_value»);
 }
 
+-- what the three arrays have of the modes
 unfoldable pub modesSlots : Modes → ModesSlots
 modesSlots g = record {
   focus = slotOf (g .focus);
@@ -42,6 +43,7 @@ modesSlots g = record {
   iso = slotOf (g .iso);
 }
 
+-- what the three arrays have of the shutter
 unfoldable pub shutterSlots : Shutter → ShutterSlots
 shutterSlots g = record {
   speed = slotOf (g .speed);
@@ -49,6 +51,7 @@ shutterSlots g = record {
   value = slotOf (g .value);
 }
 
+-- what the three arrays have of the white balance
 unfoldable pub balanceSlots : Balance → BalanceSlots
 balanceSlots g = record {
   mode = slotOf (g .mode);
@@ -58,6 +61,7 @@ balanceSlots g = record {
   isotemperature = slotOf (g .isotemperature);
 }
 
+-- what the three arrays have of gain, filter and sensitivity
 unfoldable pub gainSlots : Gain → GainSlots
 gainSlots g = record {
   mode = slotOf (g .mode);
@@ -67,6 +71,7 @@ gainSlots g = record {
   «base_iso» = slotOf (g .«base_iso»);
 }
 
+-- what the three arrays have of ranges and angles
 unfoldable pub rangesSlots : Ranges → RangesSlots
 rangesSlots g = record {
   camera = slotOf (g .camera);
@@ -75,7 +80,7 @@ rangesSlots g = record {
   roll = slotOf (g .roll);
 }
 
--- of a camera
+-- of a camera, group by group
 unfoldable pub cameraSlots : Camera → CameraSlots
 cameraSlots c = record {
   lens = lensSlots (c .lens);
@@ -122,11 +127,14 @@ placesOf told p =
     ∷ told (p .ranges .roll)
     ∷ []
 
+-- a code for each field
 abbrev pub kindPlaces : CameraSlots → List ℕ
 kindPlaces p = placesOf (λ s. s .kind) p
 
+-- its number
 abbrev pub wholePlaces : CameraSlots → List ℕ
 wholePlaces p = placesOf (λ s. s .whole) p
 
+-- its figure
 abbrev pub floatPlaces : CameraSlots → List Float
 floatPlaces p = placesOf (λ s. s .float) p

@@ -13,7 +13,7 @@ use canon_packs::Camera;
 use canon_places::Slot;
 use canon_places::slot_of;
 
-// Groups of fields, as the packs have them.
+// The slots of the lens.
 pub struct LensSlots {
     pub focal_length: Slot,
     pub electric_zoom: Slot,
@@ -25,6 +25,7 @@ pub struct LensSlots {
     pub lens_value: Slot,
 }
 
+// The slots of the modes.
 pub struct ModesSlots {
     pub focus: Slot,
     pub stabilizer: Slot,
@@ -34,12 +35,14 @@ pub struct ModesSlots {
     pub iso: Slot,
 }
 
+// The slots of the shutter.
 pub struct ShutterSlots {
     pub speed: Slot,
     pub mode: Slot,
     pub value: Slot,
 }
 
+// The slots of the white balance.
 pub struct BalanceSlots {
     pub mode: Slot,
     pub preset: Slot,
@@ -48,6 +51,7 @@ pub struct BalanceSlots {
     pub isotemperature: Slot,
 }
 
+// The slots of gain, filter and sensitivity.
 pub struct GainSlots {
     pub mode: Slot,
     pub level: Slot,
@@ -56,6 +60,7 @@ pub struct GainSlots {
     pub base_iso: Slot,
 }
 
+// The slots of ranges and angles.
 pub struct RangesSlots {
     pub camera: Slot,
     pub base_gamma: Slot,
@@ -63,6 +68,7 @@ pub struct RangesSlots {
     pub roll: Slot,
 }
 
+// A slot for each field, in groups as the packs have them.
 pub struct CameraSlots {
     pub lens: LensSlots,
     pub modes: ModesSlots,
@@ -72,6 +78,7 @@ pub struct CameraSlots {
     pub ranges: RangesSlots,
 }
 
+// What the three arrays have of the lens.
 fn lens_slots(g: Lens) -> LensSlots
     ensures { λ r. ⌜ r ≡ lensSlots g ⌝ }
 {
@@ -95,6 +102,7 @@ fn lens_slots(g: Lens) -> LensSlots
     }
 }
 
+// What the three arrays have of the modes.
 fn modes_slots(g: Modes) -> ModesSlots
     ensures { λ r. ⌜ r ≡ modesSlots g ⌝ }
 {
@@ -114,6 +122,7 @@ fn modes_slots(g: Modes) -> ModesSlots
     }
 }
 
+// What the three arrays have of the shutter.
 fn shutter_slots(g: Shutter) -> ShutterSlots
     ensures { λ r. ⌜ r ≡ shutterSlots g ⌝ }
 {
@@ -127,6 +136,7 @@ fn shutter_slots(g: Shutter) -> ShutterSlots
     }
 }
 
+// What the three arrays have of the white balance.
 fn balance_slots(g: Balance) -> BalanceSlots
     ensures { λ r. ⌜ r ≡ balanceSlots g ⌝ }
 {
@@ -144,6 +154,7 @@ fn balance_slots(g: Balance) -> BalanceSlots
     }
 }
 
+// What the three arrays have of gain, filter and sensitivity.
 fn gain_slots(g: Gain) -> GainSlots
     ensures { λ r. ⌜ r ≡ gainSlots g ⌝ }
 {
@@ -161,6 +172,7 @@ fn gain_slots(g: Gain) -> GainSlots
     }
 }
 
+// What the three arrays have of ranges and angles.
 fn ranges_slots(g: Ranges) -> RangesSlots
     ensures { λ r. ⌜ r ≡ rangesSlots g ⌝ }
 {

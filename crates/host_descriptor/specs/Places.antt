@@ -35,9 +35,11 @@ rateFigure rate.Nothing = ofBits binary64 0
 unfoldable pub fourOf : (Whole → ℕ) → Area → Four
 fourOf told a = record { height = told (a .height); width = told (a .width); «x_offset» = told (a .«x_offset»); «y_offset» = told (a .«y_offset») }
 
+-- which of an area's fields are there
 abbrev pub areaFound : Area → Four
 areaFound a = fourOf wholeFound a
 
+-- an area's numbers
 abbrev pub areaFigures : Area → Four
 areaFigures a = fourOf wholeFigure a
 
@@ -88,14 +90,18 @@ unfoldable pub after : {A : Type 0} → (Descriptor → List A) → Said → Lis
 after places (done d) old = places d
 after places (refused n) old = old
 
+-- `present` after the call
 abbrev pub presentAfter : Said → List ℕ → List ℕ
 presentAfter = after foundPlaces
 
+-- `whole` after the call
 abbrev pub wholeAfter : Said → List ℕ → List ℕ
 wholeAfter = after figurePlaces
 
+-- `rates_present` after the call
 abbrev pub ratesPresentAfter : Said → List ℕ → List ℕ
 ratesPresentAfter = after rateFoundPlaces
 
+-- `rates` after the call
 abbrev pub ratesAfter : Said → List Float → List Float
 ratesAfter = after rateFigurePlaces

@@ -48,17 +48,19 @@ placesOf (given k q n) out = givenPlaces k q n
 placesOf (over q n) out = overPlaces q n
 placesOf refused out = out
 
--- what each walk's step says
+-- what a step of Sony's walk says
 unfoldable pub sonySaid : SonyStep → Said
 sonySaid (sony.Frame f next) = framed f (next .at) (next .number)
 sonySaid (sony.Over next) = over (next .at) (next .number)
 sonySaid sony.Refused = refused
 
+-- of ARRI's
 unfoldable pub arriSaid : ArriStep → Said
 arriSaid (arri.Frame f next) = framed f (next .at) (next .number)
 arriSaid (arri.Over next) = over (next .at) (next .number)
 arriSaid arri.Refused = refused
 
+-- of Canon's
 unfoldable pub canonSaid : CanonStep → Said
 canonSaid (canon.Frame f next) = framed f (next .at) (next .number)
 canonSaid (canon.Given k next) = given k (next .at) (next .number)
