@@ -16,7 +16,7 @@ use parts::number;
 use parts::part;
 
 // Bytes 8 to 11 of ARRI's keys.
-const ARRI_ITEMS: [u8; 4] = [0x0e, 0x17, 0x01, 0x02];
+const ARRI_ITEMS: [u8; 4] = *b"\x0e\x17\x01\x02";
 
 // The item's number: bytes 12 and 13 of its key, of another's key 0.
 pub fn number_in(key: &[u8]) -> u64

@@ -16,24 +16,8 @@ use items::Run;
 use klv::Klv;
 
 // The lens unit set (RDD 18), whose item 8200h is the frame's dynamic metadata.
-const LENS_UNIT_SET: [u8; 16] = [
-    0x06,
-    0x0e,
-    0x2b,
-    0x34,
-    0x02,
-    0x53,
-    0x01,
-    0x01,
-    0x0c,
-    0x02,
-    0x01,
-    0x01,
-    0x01,
-    0x01,
-    0x00,
-    0x00,
-];
+const LENS_UNIT_SET: [u8; 16] =
+    *b"\x06\x0e\x2b\x34\x02\x53\x01\x01\x0c\x02\x01\x01\x01\x01\x00\x00";
 
 // Where the 256 bytes are.
 pub enum Block {

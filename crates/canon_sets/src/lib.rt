@@ -13,24 +13,8 @@ use items::Run;
 use klv::Klv;
 
 // The packs of a camera.
-pub const PRIVATE_CAMERA_METADATA: [u8; 16] = [
-    0x06,
-    0x0e,
-    0x2b,
-    0x34,
-    0x01,
-    0x01,
-    0x01,
-    0x0d,
-    0x0e,
-    0x15,
-    0x00,
-    0x01,
-    0x00,
-    0x01,
-    0x00,
-    0x00,
-];
+pub const PRIVATE_CAMERA_METADATA: [u8; 16] =
+    *b"\x06\x0e\x2b\x34\x01\x01\x01\x0d\x0e\x15\x00\x01\x00\x01\x00\x00";
 
 // What a turn at a cursor finds.
 enum Turn {

@@ -44,24 +44,8 @@ impl Sony {
     // An ST 436 element holds at most 65,535 lines of 14 + 348 bytes.
     pub const LONGEST: usize = 23_723_672;
     // `ANCILLARY`: all 16 bytes are compared.
-    pub const ANCILLARY: [u8; 16] = [
-        0x06,
-        0x0e,
-        0x2b,
-        0x34,
-        0x01,
-        0x02,
-        0x01,
-        0x01,
-        0x0d,
-        0x01,
-        0x03,
-        0x01,
-        0x17,
-        0x01,
-        0x02,
-        0x01,
-    ];
+    pub const ANCILLARY: [u8; 16] =
+        *b"\x06\x0e\x2b\x34\x01\x02\x01\x01\x0d\x01\x03\x01\x17\x01\x02\x01";
 }
 
 // ARRI's walk, likewise.
@@ -73,43 +57,11 @@ pub struct Arri {
 impl Arri {
     pub const LONGEST: usize = 8_192;
     // `PICTURE_METADATA`, as the same label: an ALEXA Mini's.
-    pub const PICTURE_METADATA: [u8; 16] = [
-        0x06,
-        0x0e,
-        0x2b,
-        0x34,
-        0x02,
-        0x43,
-        0x01,
-        0x01,
-        0x0d,
-        0x01,
-        0x03,
-        0x01,
-        0x04,
-        0x01,
-        0x03,
-        0x01,
-    ];
+    pub const PICTURE_METADATA: [u8; 16] =
+        *b"\x06\x0e\x2b\x34\x02\x43\x01\x01\x0d\x01\x03\x01\x04\x01\x03\x01";
     // `FRAME_DATA`, with the bytes 7, 13 and 15 free: an ALEXA 35's.
-    pub const FRAME_DATA: [u8; 16] = [
-        0x06,
-        0x0e,
-        0x2b,
-        0x34,
-        0x01,
-        0x02,
-        0x01,
-        0x01,
-        0x0d,
-        0x01,
-        0x03,
-        0x01,
-        0x17,
-        0x01,
-        0x0f,
-        0x00,
-    ];
+    pub const FRAME_DATA: [u8; 16] =
+        *b"\x06\x0e\x2b\x34\x01\x02\x01\x01\x0d\x01\x03\x01\x17\x01\x0f\x00";
 }
 
 // Canon's walk is Sony's, and gives the values of two labels too.
@@ -122,43 +74,11 @@ impl Canon {
     // The longest value that is given; a longer one is stepped over.
     pub const LONGEST_GIVEN: usize = 1_048_576;
     // `KEYS`, as same labels: a system item's package metadata set, and the stream file's sequence info.
-    pub const PACKAGE_METADATA: [u8; 16] = [
-        0x06,
-        0x0e,
-        0x2b,
-        0x34,
-        0x02,
-        0x43,
-        0x01,
-        0x01,
-        0x0d,
-        0x01,
-        0x03,
-        0x01,
-        0x04,
-        0x01,
-        0x02,
-        0x03,
-    ];
+    pub const PACKAGE_METADATA: [u8; 16] =
+        *b"\x06\x0e\x2b\x34\x02\x43\x01\x01\x0d\x01\x03\x01\x04\x01\x02\x03";
 
-    pub const SEQUENCE_INFO: [u8; 16] = [
-        0x06,
-        0x0e,
-        0x2b,
-        0x34,
-        0x01,
-        0x01,
-        0x01,
-        0x0d,
-        0x0e,
-        0x15,
-        0x00,
-        0x00,
-        0x00,
-        0x01,
-        0x00,
-        0x00,
-    ];
+    pub const SEQUENCE_INFO: [u8; 16] =
+        *b"\x06\x0e\x2b\x34\x01\x01\x01\x0d\x0e\x15\x00\x00\x00\x01\x00\x00";
 }
 
 // What a label is to Sony's walk.

@@ -4,45 +4,14 @@ ghost use mathlib.Core.Path.{_≡_};
 ghost use Rattle.labels.specs.Label.{beginning, agreeBut, sameLabel, labelAt};
 
 // What every key starts with: a SMPTE universal label's first bytes (ST 336).
-pub const KEY_START: [u8; 4] = [0x06, 0x0e, 0x2b, 0x34];
+pub const KEY_START: [u8; 4] = *b"\x06\x0e\x2b\x34";
 
 // The partition packs' labels, ahead of their kind (2 the header's, 3 a body's, 4 the footer's), their status and 0
 // (ST 377-1).
-pub const PARTITION_PREFIX: [u8; 13] = [
-    0x06,
-    0x0e,
-    0x2b,
-    0x34,
-    0x02,
-    0x05,
-    0x01,
-    0x01,
-    0x0d,
-    0x01,
-    0x02,
-    0x01,
-    0x01,
-];
+pub const PARTITION_PREFIX: [u8; 13] = *b"\x06\x0e\x2b\x34\x02\x05\x01\x01\x0d\x01\x02\x01\x01";
 
 // The primer pack (ST 377-1).
-pub const PRIMER: [u8; 16] = [
-    0x06,
-    0x0e,
-    0x2b,
-    0x34,
-    0x02,
-    0x05,
-    0x01,
-    0x01,
-    0x0d,
-    0x01,
-    0x02,
-    0x01,
-    0x01,
-    0x05,
-    0x01,
-    0x00,
-];
+pub const PRIMER: [u8; 16] = *b"\x06\x0e\x2b\x34\x02\x05\x01\x01\x0d\x01\x02\x01\x01\x05\x01\x00";
 
 // Whether the first is a beginning of the second.
 pub fn begins(l: &[u8], k: &[u8]) -> bool
