@@ -4,6 +4,9 @@
 
 use crate::Refusal;
 
+/// The library is for 64-bit machines: a place that it answers is a `usize`.
+const _: () = assert!(usize::BITS == 64);
+
 /// The places of a record that a step found, or that it found none: found, place, value's place, value's length, next cursor.
 pub type Stepped = [u64; 5];
 /// What a step of a frame walk wrote: found, number, place, value's place, value's length, over-long, next cursor, next number.

@@ -38,7 +38,7 @@ pub mod tables;
 pub mod values;
 pub mod walk;
 
-pub use canon::{Camera, Member, Sequence, Value, camera_metadata, package_metadata, stream_file_sequence_info};
+pub use canon::{Camera, Member, Packages, Sequence, Value, camera_metadata, package_metadata, stream_file_sequence_info};
 pub use frames::{Arri, Canon, CanonItem, Frame, Sony};
 pub use items::{Coding, Item, Items, Klvs, klvs, local_items};
 pub use record::{Length, Record, Refusal, next_key, read_ber, same_label};
