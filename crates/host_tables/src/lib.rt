@@ -7,10 +7,14 @@ ghost use Rattle.header.specs.Header.{headerOf};
 ghost use Rattle.arri_block.specs.Block.{blockOf};
 ghost use Rattle.st436.specs.Lines.{lineStep};
 ghost use Rattle.st436.specs.Payload.{payloadSaid, payloadInto};
+ghost use Rattle.canon_sequence.specs.Sequence.{sequenceOf};
 ghost use Rattle.canon_sets.specs.Package.{valuesFrom};
 ghost use Rattle.canon_sets.specs.Told.{firstOf};
 ghost use Rattle.host_tables.specs.Places.{headerPlaces, entryPlaces, blockPlaces, payloadPlaces, linePlaces, packagePlaces};
+ghost use Rattle.host_tables.specs.Sequence.{spotOf, positionFound, positionFigure, sequencePlaces, positionPlaces};
 use arri_block::Block;
+use canon_sequence::Identifier;
+use canon_sequence::Position;
 use canon_sets::Metadata;
 use canon_sets::Package;
 use header::Header;
@@ -119,5 +123,82 @@ pub extern "C" fn brine_package(s: &[u8], from: usize, end: usize, out: &mut [u6
         ],
         Metadata::End => *out = [0, 0, 0, 0, from as u64, end as u64],
     }
+    0
+}
+
+// Where an identifier is.
+pub struct Spot {
+    pub found: u64,
+    pub at: u64,
+    pub len: u64,
+}
+
+// Where an identifier's bytes are, if it is there.
+fn spot_of(i: Identifier) -> Spot
+    ensures { λ r. ⌜ r ≡ spotOf i ⌝ }
+{
+    match i {
+        Identifier::Is(k) => Spot {
+            found: 1,
+            at: k.value as u64,
+            len: k.len as u64,
+        },
+        Identifier::Nothing => Spot {
+            found: 0,
+            at: 0,
+            len: 0,
+        },
+    }
+}
+
+// Whether a position is there.
+fn position_found(p: Position) -> u64
+    ensures { λ r. ⌜ r ≡ positionFound p ⌝ }
+{
+    match p {
+        Position::Is(_) => 1,
+        Position::Nothing => 0,
+    }
+}
+
+// A position, 0 for none.
+fn position_figure(p: Position) -> i64
+    ensures { λ r. ⌜ r ≡ positionFigure p ⌝ }
+{
+    match p {
+        Position::Is(n) => n,
+        Position::Nothing => 0,
+    }
+}
+
+// A sequence info.
+#[no_mangle]
+pub extern "C" fn brine_sequence(s: &[u8], out: &mut [u64; 8], positions: &mut [i64; 2]) -> u32
+    ensures { λ r. ⌜ r ≡ 0 ⌝ }
+    ensures { λ r. ⌜ now (out .exit) ≡ sequencePlaces (sequenceOf (now (s .entry))) ⌝ }
+    ensures { λ r. ⌜ now (positions .exit) ≡ positionPlaces (sequenceOf (now (s .entry))) ⌝ }
+{
+    let q = canon_sequence::read(s);
+    let instance_uid = q.instance_uid;
+    let package_uid = q.package_uid;
+    let start_timecode = q.start_timecode;
+    let start_position = q.start_position;
+    let instance = spot_of(instance_uid);
+    let package = spot_of(package_uid);
+    let timecode_found = position_found(start_timecode);
+    let position_found = position_found(start_position);
+    *out = [
+        instance.found,
+        instance.at,
+        instance.len,
+        package.found,
+        package.at,
+        package.len,
+        timecode_found,
+        position_found,
+    ];
+    let timecode = position_figure(start_timecode);
+    let position = position_figure(start_position);
+    *positions = [timecode, position];
     0
 }
