@@ -98,10 +98,13 @@ mod tests {
     }
 
     #[test]
-    fn every_word_answers_nothing() {
-        for (word, fields) in line::WORDS {
+    fn every_word_answers_no_bytes() {
+        let answers = line::WORDS.map(|(word, fields)| {
             let line = [word, &b" 0".repeat(fields.len())[..], b" -"].concat();
-            assert_ne!(answered(str::from_utf8(&line).unwrap()), "refused 1", "{word:?}");
-        }
+            answered(str::from_utf8(&line).unwrap())
+        });
+        let no_values = "fl=- fd=- ts=- et=- sa=- tr=- ei=- wb=- nd=- efl=- wbf=- enc=-/-/-/-/-/- tint=- fps=-";
+        assert_eq!(answers[..11], ["cut", "|0", "-|0", "", "|0", "|0", "-", "", "", "-", "?"]);
+        assert_eq!(answers[11..], [no_values, "", "0,-", "", "", "", "", "", ""]);
     }
 }
