@@ -50,7 +50,7 @@ struct Walk<'a> {
 }
 
 impl<'a> Walk<'a> {
-    /// The walk from the start. A step at the end finds nothing, and is refused where every other would be.
+    /// The walk from the start, refused where every step would be: one at the end finds nothing.
     fn new(s: &'a [u8], end: usize, step: Step) -> Result<Self, Refusal> {
         step(s, end, end, 0)?;
         Ok(Walk { s, end, step, at: 0, number: 0 })
