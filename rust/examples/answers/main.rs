@@ -1,0 +1,110 @@
+//! Answers case lines (docs/CASES.md) from standard input through the crate, so that `oracle/compare` compares it with the
+//! published Rust: `oracle/compare all 20000 1 --answers rust/target/release/examples/answers`.
+
+mod arri;
+mod canon;
+mod line;
+mod sony;
+mod text;
+mod walk;
+
+use std::io::{BufRead, BufReader, BufWriter, Result, Write, stdin, stdout};
+
+use brinethimble::Refusal;
+use line::Case;
+use text::Text;
+
+fn main() -> Result<()> {
+    let mut input = BufReader::with_capacity(1 << 16, stdin().lock());
+    let mut output = BufWriter::with_capacity(1 << 16, stdout().lock());
+    let (mut line, mut bytes, mut out) = (Vec::new(), Vec::new(), Text::default());
+    while input.read_until(b'\n', &mut line)? > 0 {
+        answer(&mut out, line.strip_suffix(b"\n").unwrap_or(&line), &mut bytes);
+        out.0.push(b'\n');
+        output.write_all(&out.0)?;
+        line.clear();
+        out.0.clear();
+    }
+    output.flush()
+}
+
+/// Puts the answer to a line; `bytes` is room for its own.
+fn answer(out: &mut Text, line: &[u8], bytes: &mut Vec<u8>) {
+    let Some(case) = line::parse(line, bytes) else {
+        out.put("?");
+        return;
+    };
+    if let Err(refusal) = reply(out, &case) {
+        out.0.clear();
+        out.put("refused ").number(refusal.number().into());
+    }
+}
+
+/// Puts the answer to a case.
+fn reply(out: &mut Text, case: &Case) -> std::result::Result<(), Refusal> {
+    let (s, [a, b]) = (case.bytes, case.numbers);
+    match case.word {
+        b"ber" => walk::ber(out, s),
+        b"walk" => walk::walk(out, s, a)?,
+        b"step" => walk::step(out, s, a, b)?,
+        b"klvs" => walk::klvs(out, s),
+        b"arrive" => walk::arrive(out, s, a)?,
+        b"tally" => walk::tally(out, s),
+        b"header" => arri::header(out, s),
+        b"primer" => arri::primer(out, s),
+        b"items" => arri::items(out, s, a == 1),
+        b"dynamic" => arri::dynamic(out, s),
+        b"ofdynamic" => arri::of_dynamic(out, s),
+        b"alexa" => arri::alexa(out, s),
+        b"arri" => arri::frames(out, s, a)?,
+        b"anc" => sony::anc(out, s)?,
+        b"set" => sony::set(out, s)?,
+        b"sony" => sony::frames(out, s, a)?,
+        b"packs" => canon::packs(out, s),
+        b"package" => canon::package(out, s),
+        b"sequence" => canon::sequence(out, s),
+        b"canon" => canon::frames(out, s, a)?,
+        _ => unreachable!("the words of line::WORDS are all here"),
+    }
+    Ok(())
+}
+
+#[cfg(test)]
+mod tests {
+    use super::*;
+
+    /// The answer to a line.
+    fn answered(line: &str) -> String {
+        let mut out = Text::default();
+        answer(&mut out, line.as_bytes(), &mut Vec::new());
+        String::from_utf8(out.0).unwrap()
+    }
+
+    #[test]
+    fn what_is_no_case_is_answered_so() {
+        let no_cases = ["", "ber", "ber ", "ber 0", "ber 0A", "ber 00 ", "walk 00", "walk x 00", "items 2 00", "step n n 00"];
+        for line in no_cases {
+            assert_eq!(answered(line), "?", "{line:?}");
+        }
+        assert_eq!(answered("walk 18446744073709551616 00"), "?");
+        assert_eq!(answered(&format!("ber {}", "00".repeat(32_766))), "?");
+    }
+
+    #[test]
+    fn refusals_are_answered_by_their_numbers() {
+        assert_eq!(answered("walk 1 -"), "refused 1");
+        assert_eq!(answered("arrive 0 00"), "refused 2");
+        assert_eq!(answered("set 30010008"), "refused 4");
+    }
+
+    #[test]
+    fn every_word_answers_no_bytes() {
+        let answers = line::WORDS.map(|(word, fields)| {
+            let line = [word, &b" 0".repeat(fields.len())[..], b" -"].concat();
+            answered(str::from_utf8(&line).unwrap())
+        });
+        let no_values = "fl=- fd=- ts=- et=- sa=- tr=- ei=- wb=- nd=- efl=- wbf=- enc=-/-/-/-/-/- tint=- fps=-";
+        assert_eq!(answers[..11], ["cut", "|0", "-|0", "", "|0", "|0", "-", "", "", "-", "?"]);
+        assert_eq!(answers[11..], [no_values, "", "0,-", "", "", "", "", "", ""]);
+    }
+}

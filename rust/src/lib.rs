@@ -1,0 +1,47 @@
+//! The records, tables and frames of MXF files, as they land.
+//!
+//! A safe crate over a library in which every function is proved. Every call answers on every input and ends; none allocates,
+//! trusts a length or a count, or keeps anything between calls. What is found is a part of the buffer that was lent.
+//!
+//! ```
+//! let label = *b"\x06\x0e\x2b\x34\x01\x01\x01\x0d\x0e\x15\x00\x01\x00\x01\x00\x00";
+//! let other = *b"\x06\x0e\x2b\x34\x01\x01\x01\x0e\x0e\x15\x00\x01\x00\x01\x00\x00";
+//! let file = [&[0][..], &label, &[2, 0xaa, 0xbb], &other, &[0x81, 0]].concat();
+//!
+//! let records: Vec<_> = brinethimble::Records::of(&file).collect();
+//! assert_eq!((records[0].place, records[0].label, records[0].value_place), (1, &label, 18));
+//! assert_eq!(records[0].value, [0xaa, 0xbb]);
+//! assert_eq!((records[1].place, records[1].label, records[1].value_place), (20, &other, 38));
+//! assert_eq!(records[1].value, []);
+//! assert_eq!(records.len(), 2);
+//! ```
+//!
+//! | subject | module |
+//! |---|---|
+//! | labels, lengths, records, refusals | [`record`] |
+//! | the walk over a file, finished or arriving | [`walk`] |
+//! | runs of records and items of sets, inside values | [`items`] |
+//! | header part, primer, descriptor, ST 436 | [`tables`] |
+//! | the frames of Sony's, ARRI's and Canon's files | [`frames`] |
+//! | the values of ARRI's frames | [`values`] |
+//! | Canon's camera metadata and sequence info | [`canon`] |
+#![forbid(unsafe_op_in_unsafe_fn)]
+#![deny(missing_docs, unsafe_code)]
+
+#[allow(unsafe_code)]
+mod boundary;
+pub mod canon;
+pub mod frames;
+pub mod items;
+pub mod record;
+pub mod tables;
+pub mod values;
+pub mod walk;
+
+pub use canon::{Camera, Member, Packages, Sequence, Value, camera_metadata, package_metadata, stream_file_sequence_info};
+pub use frames::{Arri, Canon, CanonItem, Frame, Sony};
+pub use items::{Coding, Item, Items, Klvs, klvs, local_items};
+pub use record::{Length, Record, Refusal, next_key, read_ber, same_label};
+pub use tables::{Area, Descriptor, Lines, Primer, dynamic_metadata, header_partition_metadata, lines, payload_into};
+pub use values::{Distance, Encoders, FrameValues, TStop, of_alexa35, of_dynamic, values_of};
+pub use walk::{Arriving, Filled, Records, Tally, next_klv, records_into, tally};

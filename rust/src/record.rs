@@ -1,0 +1,203 @@
+//! Labels, lengths and records: what all walks, runs and sets are made of.
+//!
+//! A record is a label of 16 bytes, a BER length and a value. Two labels are the same when they agree in all but the byte at 7.
+//!
+//! ```
+//! use brinethimble::{Length, next_key, read_ber, same_label};
+//!
+//! assert_eq!(read_ber(&[0x82, 1, 0], 0), Length::Is { number: 256, bytes: 3 });
+//!
+//! let label = *b"\x06\x0e\x2b\x34\x01\x01\x01\x0d\x0e\x15\x00\x01\x00\x01\x00\x00";
+//! let mut other = label;
+//! other[7] = 0x0e;
+//! assert!(same_label(&label, &other));
+//!
+//! assert_eq!(next_key(&[0, 0x06, 0x0e, 0x2b, 0x34], 5, 0), 1);
+//! ```
+
+use std::fmt;
+
+use crate::boundary;
+
+/// Why a call refuses: it has answered nothing and written nothing.
+#[derive(Clone, Copy, PartialEq, Eq, Debug)]
+pub enum Refusal {
+    /// 1: the end is larger than the buffer.
+    EndPastBuffer,
+    /// 2: more bytes have arrived than the limit.
+    PastLimit,
+    /// 3: the payload is longer than the lent room.
+    NoRoom {
+        /// The payload's length.
+        needed: usize,
+    },
+    /// 4: an item of a descriptor runs past its set.
+    ItemPastSet,
+}
+
+impl Refusal {
+    /// The refusal's number.
+    ///
+    /// ```
+    /// assert_eq!(brinethimble::Refusal::NoRoom { needed: 9 }.number(), 3);
+    /// ```
+    pub fn number(self) -> u32 {
+        match self {
+            Refusal::EndPastBuffer => 1,
+            Refusal::PastLimit => 2,
+            Refusal::NoRoom { .. } => 3,
+            Refusal::ItemPastSet => 4,
+        }
+    }
+}
+
+impl fmt::Display for Refusal {
+    fn fmt(&self, f: &mut fmt::Formatter) -> fmt::Result {
+        match self {
+            Refusal::EndPastBuffer => write!(f, "the end is larger than the buffer"),
+            Refusal::PastLimit => write!(f, "more bytes have arrived than the limit"),
+            Refusal::NoRoom { needed } => write!(f, "the payload needs {needed} bytes of room"),
+            Refusal::ItemPastSet => write!(f, "an item runs past its set"),
+        }
+    }
+}
+
+impl std::error::Error for Refusal {}
+
+/// What stands where a length is read.
+#[derive(Clone, Copy, PartialEq, Eq, Debug)]
+pub enum Length {
+    /// A length.
+    Is {
+        /// The length.
+        number: u64,
+        /// How many bytes it took, 1 to 9.
+        bytes: usize,
+    },
+    /// Bytes of the length are missing.
+    Cut,
+    /// These bytes are no length.
+    None,
+}
+
+/// A record of a walk or a run.
+#[derive(Clone, Copy, PartialEq, Eq, Debug)]
+pub struct Record<'a> {
+    /// Where it begins in the buffer.
+    pub place: usize,
+    /// Its label.
+    pub label: &'a [u8; 16],
+    /// Where its value begins in the buffer.
+    pub value_place: usize,
+    /// Its value.
+    pub value: &'a [u8],
+}
+
+impl<'a> Record<'a> {
+    /// The record at a place, with its value's place and length.
+    pub(crate) fn at(s: &'a [u8], [place, value, length]: [u64; 3]) -> Self {
+        let label = part(s, place, 16).try_into().expect("16 bytes of label");
+        Record { place: place as usize, label, value_place: value as usize, value: part(s, value, length) }
+    }
+
+    /// The record that a step found, if it did, and the next cursor.
+    pub(crate) fn stepped(s: &'a [u8], [found, place, value, length, next]: boundary::Stepped) -> (Option<Self>, usize) {
+        ((found == 1).then(|| Record::at(s, [place, value, length])), next as usize)
+    }
+}
+
+/// The part of a buffer that the library found, as much of it as is there: an empty one may be placed past the end.
+pub(crate) fn part(s: &[u8], place: u64, length: u64) -> &[u8] {
+    let rest = s.get(place as usize..).unwrap_or_default();
+    &rest[..rest.len().min(length as usize)]
+}
+
+/// The BER length at a place.
+///
+/// ```
+/// use brinethimble::{Length, read_ber};
+///
+/// assert_eq!(read_ber(&[0x7f], 0), Length::Is { number: 127, bytes: 1 });
+/// assert_eq!(read_ber(&[0x80], 0), Length::Is { number: 0, bytes: 1 });
+/// assert_eq!(read_ber(&[0x81, 0], 0), Length::Is { number: 0, bytes: 2 });
+/// assert_eq!(read_ber(b"\x88\xff\xff\xff\xff\xff\xff\xff\xff", 0), Length::Is { number: u64::MAX, bytes: 9 });
+/// assert_eq!(read_ber(&[0x89], 0), Length::None);
+/// assert_eq!(read_ber(&[0x81], 0), Length::Cut);
+/// ```
+pub fn read_ber(s: &[u8], at: usize) -> Length {
+    match boundary::length(s, at) {
+        [1, number, bytes] => Length::Is { number, bytes: bytes as usize },
+        [2, ..] => Length::Cut,
+        _ => Length::None,
+    }
+}
+
+/// Whether two labels are the same: both have 16 bytes and agree in all but the byte at 7.
+///
+/// ```
+/// let label = *b"\x06\x0e\x2b\x34\x01\x01\x01\x0d\x0e\x15\x00\x01\x00\x01\x00\x00";
+/// assert!(brinethimble::same_label(&label, &label));
+/// assert!(!brinethimble::same_label(&label, &label[..15]));
+/// ```
+pub fn same_label(a: &[u8], b: &[u8]) -> bool {
+    boundary::same_label(a, b)
+}
+
+/// The first place from `from` on where 06 0e 2b 34 stand wholly before `end`, else `end`; `from` itself where that is at or
+/// past the end. An end past the buffer is the buffer's.
+///
+/// ```
+/// use brinethimble::next_key;
+///
+/// let s = b"\x00\x06\x0e\x2b\x34\x06\x0e\x2b\x34";
+/// assert_eq!(next_key(s, 9, 0), 1);
+/// assert_eq!(next_key(s, 9, 2), 5);
+/// assert_eq!(next_key(s, 8, 2), 8);
+/// ```
+pub fn next_key(s: &[u8], end: usize, from: usize) -> usize {
+    boundary::next_key(s, end, from)
+}
+
+#[cfg(test)]
+mod tests {
+    use super::*;
+
+    #[test]
+    fn a_length_past_the_bytes_is_cut() {
+        assert_eq!(read_ber(&[], 0), Length::Cut);
+        assert_eq!(read_ber(&[0x7f], 1), Length::Cut);
+        assert_eq!(read_ber(&[0x7f], usize::MAX), Length::Cut);
+        assert_eq!(read_ber(&[0x88, 1, 2, 3, 4, 5, 6, 7], 0), Length::Cut);
+    }
+
+    #[test]
+    fn labels_of_other_lengths_are_not_the_same() {
+        assert!(!same_label(&[], &[]));
+        assert!(!same_label(&[0; 17], &[0; 17]));
+        assert!(same_label(&[0; 16], &[0; 16]));
+    }
+
+    #[test]
+    fn each_byte_but_the_one_at_7_tells_labels_apart() {
+        for i in 0..16 {
+            let mut other = [0; 16];
+            other[i] = 1;
+            assert_eq!(same_label(&[0; 16], &other), i == 7, "byte {i}");
+        }
+    }
+
+    #[test]
+    fn a_search_past_the_end_stays() {
+        assert_eq!(next_key(&[], 0, 0), 0);
+        assert_eq!(next_key(&[], 0, 7), 7);
+        assert_eq!(next_key(&[6; 40], 40, usize::MAX), usize::MAX);
+        assert_eq!(next_key(&[6; 40], usize::MAX, 3), 40);
+    }
+
+    #[test]
+    fn refusals_have_their_numbers() {
+        let all = [Refusal::EndPastBuffer, Refusal::PastLimit, Refusal::NoRoom { needed: 7 }, Refusal::ItemPastSet];
+        assert_eq!(all.map(Refusal::number), [1, 2, 3, 4]);
+        assert_eq!(all[2].to_string(), "the payload needs 7 bytes of room");
+    }
+}

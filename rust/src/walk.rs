@@ -1,0 +1,323 @@
+//! The walk over a file's records, finished or arriving.
+//!
+//! The finished walk ([`Records`]) lists a buffer up to an end as the published Rust does. The arriving walk ([`Arriving`])
+//! lists an upload that is under way: a record that it gives is in the finished list of every file that starts with these
+//! bytes, so more bytes never unsay one. It waits where a record may still come whole within the operator's limit.
+//!
+//! ```
+//! use brinethimble::{Arriving, Records};
+//!
+//! let label = *b"\x06\x0e\x2b\x34\x01\x01\x01\x0d\x0e\x15\x00\x01\x00\x01\x00\x00";
+//! let file = [&label[..], &[2, 0xaa, 0xbb], &label, &[0]].concat();
+//! assert_eq!(Records::of(&file).map(|record| record.place).collect::<Vec<_>>(), [0, 19]);
+//!
+//! let mut upload = Arriving::new(1000);
+//! assert_eq!(upload.feed(&file[..18])?.count(), 0);
+//! assert_eq!(upload.cursor(), 0);
+//! let arrived: Vec<_> = upload.feed(&file)?.map(|record| record.place).collect();
+//! assert_eq!(arrived, [0, 19]);
+//! # Ok::<(), brinethimble::Refusal>(())
+//! ```
+
+use crate::boundary;
+use crate::record::{Record, Refusal};
+
+/// A step of the finished walk from a cursor, the first of which is 0: the next record, or none where the walk is over, and
+/// the next cursor.
+///
+/// ```
+/// let label = *b"\x06\x0e\x2b\x34\x01\x01\x01\x0d\x0e\x15\x00\x01\x00\x01\x00\x00";
+/// let file = [&label[..], &[0]].concat();
+/// let (record, next) = brinethimble::next_klv(&file, 17, 0)?;
+/// assert_eq!((record.unwrap().value_place, next), (17, 17));
+/// assert_eq!(brinethimble::next_klv(&file, 16, 0)?, (None, 0));
+/// # Ok::<(), brinethimble::Refusal>(())
+/// ```
+pub fn next_klv(s: &[u8], end: usize, at: usize) -> Result<(Option<Record<'_>>, usize), Refusal> {
+    boundary::step(s, end, at).map(|stepped| Record::stepped(s, stepped))
+}
+
+/// The records of the finished walk.
+#[derive(Clone, Debug)]
+pub struct Records<'a> {
+    s: &'a [u8],
+    end: usize,
+    at: usize,
+}
+
+impl<'a> Records<'a> {
+    /// The records of all of a buffer.
+    ///
+    /// ```
+    /// let label = *b"\x06\x0e\x2b\x34\x01\x01\x01\x0d\x0e\x15\x00\x01\x00\x01\x00\x00";
+    /// assert_eq!(brinethimble::Records::of(&label).count(), 0);
+    /// assert_eq!(brinethimble::Records::of(&[&label[..], &[0]].concat()).count(), 1);
+    /// ```
+    pub fn of(s: &'a [u8]) -> Self {
+        Records { s, end: s.len(), at: 0 }
+    }
+
+    /// The records of a buffer up to an end.
+    ///
+    /// ```
+    /// use brinethimble::{Records, Refusal};
+    ///
+    /// assert_eq!(Records::before(&[0; 20], 20)?.count(), 0);
+    /// assert_eq!(Records::before(&[0; 20], 21).unwrap_err(), Refusal::EndPastBuffer);
+    /// # Ok::<(), Refusal>(())
+    /// ```
+    pub fn before(s: &'a [u8], end: usize) -> Result<Self, Refusal> {
+        // A step at the end finds nothing, and is refused where every other would be.
+        boundary::step(s, end, end)?;
+        Ok(Records { s, end, at: 0 })
+    }
+
+    /// Where the walk is.
+    ///
+    /// ```
+    /// let mut records = brinethimble::Records::of(&[0; 20]);
+    /// assert_eq!((records.cursor(), records.next(), records.cursor()), (0, None, 20));
+    /// ```
+    pub fn cursor(&self) -> usize {
+        self.at
+    }
+}
+
+impl<'a> Iterator for Records<'a> {
+    type Item = Record<'a>;
+
+    fn next(&mut self) -> Option<Record<'a>> {
+        let (record, next) = next_klv(self.s, self.end, self.at).ok()?;
+        self.at = next;
+        record
+    }
+}
+
+/// The arriving walk of an upload: its limit and its cursor. It is lent all that has arrived at each call and keeps none.
+#[derive(Clone, Debug)]
+pub struct Arriving {
+    limit: usize,
+    at: usize,
+}
+
+impl Arriving {
+    /// The walk of an upload of at most so many bytes.
+    ///
+    /// ```
+    /// use brinethimble::{Arriving, Refusal};
+    ///
+    /// let mut upload = Arriving::new(40);
+    /// assert_eq!(upload.next_klv(&[0; 41]), Err(Refusal::PastLimit));
+    /// assert_eq!(upload.cursor(), 0);
+    /// ```
+    pub fn new(limit: usize) -> Self {
+        Arriving { limit, at: 0 }
+    }
+
+    /// Where the walk is: where it waits, once a step has given no record.
+    ///
+    /// ```
+    /// let mut upload = brinethimble::Arriving::new(100);
+    /// assert_eq!(upload.next_klv(b"none of these starts a key\x06\x0e")?, None);
+    /// assert_eq!(upload.cursor(), 26);
+    /// # Ok::<(), brinethimble::Refusal>(())
+    /// ```
+    pub fn cursor(&self) -> usize {
+        self.at
+    }
+
+    /// The next certain record in `a`, all that has arrived so far, or none where the walk waits.
+    ///
+    /// ```
+    /// let label = *b"\x06\x0e\x2b\x34\x01\x01\x01\x0d\x0e\x15\x00\x01\x00\x01\x00\x00";
+    /// let torn = [&label[..], &[1]].concat();
+    /// let mut upload = brinethimble::Arriving::new(18);
+    /// assert_eq!((upload.next_klv(&torn)?, upload.cursor()), (None, 0)); // the value may still come
+    /// let mut upload = brinethimble::Arriving::new(17);
+    /// assert_eq!((upload.next_klv(&torn)?, upload.cursor()), (None, 17)); // it cannot
+    /// # Ok::<(), brinethimble::Refusal>(())
+    /// ```
+    pub fn next_klv<'a>(&mut self, a: &'a [u8]) -> Result<Option<Record<'a>>, Refusal> {
+        let (record, next) = Record::stepped(a, boundary::arrive(a, self.limit, self.at)?);
+        self.at = next;
+        Ok(record)
+    }
+
+    /// The records that have become certain with `a`, all that has arrived so far.
+    ///
+    /// ```
+    /// let label = *b"\x06\x0e\x2b\x34\x01\x01\x01\x0d\x0e\x15\x00\x01\x00\x01\x00\x00";
+    /// let file = [&label[..], &[1, 7], &label, &[0]].concat();
+    /// let mut upload = brinethimble::Arriving::new(1000);
+    /// assert_eq!(upload.feed(&file[..30])?.map(|record| record.value).collect::<Vec<_>>(), [[7]]);
+    /// assert_eq!(upload.feed(&file)?.map(|record| record.place).collect::<Vec<_>>(), [18]);
+    /// # Ok::<(), brinethimble::Refusal>(())
+    /// ```
+    pub fn feed<'a>(&mut self, a: &'a [u8]) -> Result<impl Iterator<Item = Record<'a>>, Refusal> {
+        // As in `Records::before`: this step only refuses.
+        boundary::arrive(a, self.limit, a.len())?;
+        Ok(std::iter::from_fn(move || self.next_klv(a).ok()?))
+    }
+
+    /// Fills lent room with the next certain records, each its place, its value's place and its value's length, and moves on
+    /// behind them. The walk waits if there was room for more.
+    ///
+    /// ```
+    /// let label = *b"\x06\x0e\x2b\x34\x01\x01\x01\x0d\x0e\x15\x00\x01\x00\x01\x00\x00";
+    /// let file = [&label[..], &[1, 7], &label, &[0]].concat();
+    /// let mut upload = brinethimble::Arriving::new(1000);
+    /// let mut room = [[0; 3]; 8];
+    /// assert_eq!(upload.feed_into(&file, &mut room)?, 2);
+    /// assert_eq!(room[..2], [[0, 17, 1], [18, 35, 0]]);
+    /// # Ok::<(), brinethimble::Refusal>(())
+    /// ```
+    pub fn feed_into(&mut self, a: &[u8], room: &mut [[u64; 3]]) -> Result<usize, Refusal> {
+        let [records, next] = boundary::arrivals(a, self.limit, self.at, room.as_flattened_mut())?;
+        self.at = next as usize;
+        Ok(records as usize)
+    }
+}
+
+/// What [`records_into`] has put.
+#[derive(Clone, Copy, PartialEq, Eq, Debug)]
+pub struct Filled {
+    /// How many records.
+    pub records: usize,
+    /// The next cursor.
+    pub next: usize,
+}
+
+/// Fills lent room with records of the finished walk from a cursor, each its place, its value's place and its value's length.
+/// The walk is over if there was room for more.
+///
+/// ```
+/// use brinethimble::{Filled, records_into};
+///
+/// let label = *b"\x06\x0e\x2b\x34\x01\x01\x01\x0d\x0e\x15\x00\x01\x00\x01\x00\x00";
+/// let file = [&label[..], &[1, 7], &label, &[0]].concat();
+/// let mut room = [[0; 3]];
+/// assert_eq!(records_into(&file, 35, 0, &mut room)?, Filled { records: 1, next: 18 });
+/// assert_eq!(room, [[0, 17, 1]]);
+/// assert_eq!(records_into(&file, 35, 18, &mut room)?, Filled { records: 1, next: 35 });
+/// assert_eq!(records_into(&file, 35, 35, &mut room)?, Filled { records: 0, next: 35 });
+/// # Ok::<(), brinethimble::Refusal>(())
+/// ```
+pub fn records_into(s: &[u8], end: usize, at: usize, room: &mut [[u64; 3]]) -> Result<Filled, Refusal> {
+    let [records, next] = boundary::records(s, end, at, room.as_flattened_mut())?;
+    Ok(Filled { records: records as usize, next: next as usize })
+}
+
+/// A file's records by same label.
+#[derive(Clone, Debug)]
+pub struct Tally {
+    firsts: [usize; 64],
+    counts: [usize; 64],
+    groups: usize,
+    /// How many records are in none of the groups.
+    pub other: u64,
+}
+
+impl Tally {
+    /// Each group in order of first appearance: its first record's place and how many it has. There are at most 64.
+    ///
+    /// ```
+    /// let label = *b"\x06\x0e\x2b\x34\x01\x01\x01\x0d\x0e\x15\x00\x01\x00\x01\x00\x00";
+    /// let tally = brinethimble::tally(&[&label[..], &[0]].concat());
+    /// assert_eq!(tally.groups().collect::<Vec<_>>(), [(0, 1)]);
+    /// ```
+    pub fn groups(&self) -> impl Iterator<Item = (usize, usize)> {
+        self.firsts.into_iter().zip(self.counts).take(self.groups)
+    }
+}
+
+/// The records of the finished walk of all of `s`, grouped by same label.
+///
+/// ```
+/// let label = *b"\x06\x0e\x2b\x34\x01\x01\x01\x0d\x0e\x15\x00\x01\x00\x01\x00\x00";
+/// let other = *b"\x06\x0e\x2b\x34\x01\x01\x01\x0e\x0e\x15\x00\x01\x00\x01\x00\x00";
+/// let file = [&[0][..], &label, &[2, 0xaa, 0xbb], &other, &[0x81, 0]].concat();
+/// let tally = brinethimble::tally(&file);
+/// assert_eq!(tally.groups().collect::<Vec<_>>(), [(1, 2)]);
+/// assert_eq!(tally.other, 0);
+/// ```
+pub fn tally(s: &[u8]) -> Tally {
+    let (mut firsts, mut counts) = ([0; 64], [0; 64]);
+    let [groups, other] = boundary::tally(s, &mut firsts, &mut counts);
+    Tally { firsts, counts, groups: groups as usize, other }
+}
+
+#[cfg(test)]
+mod tests {
+    use super::*;
+
+    /// A key with a length field and a value.
+    fn record(kind: u8, length: &[u8], value: &[u8]) -> Vec<u8> {
+        [b"\x06\x0e\x2b\x34", &[kind; 12][..], length, value].concat()
+    }
+
+    #[test]
+    fn nothing_is_found_in_nothing() {
+        assert_eq!(next_klv(&[], 0, 0), Ok((None, 0)));
+        assert_eq!(next_klv(&[], 0, usize::MAX), Ok((None, usize::MAX)));
+        assert_eq!(Records::of(&[]).count(), 0);
+        assert_eq!(Arriving::new(0).next_klv(&[]), Ok(None));
+        assert_eq!(records_into(&[], 0, 0, &mut []), Ok(Filled { records: 0, next: 0 }));
+        assert_eq!(tally(&[]).groups().count(), 0);
+    }
+
+    #[test]
+    fn a_length_of_2_to_the_64_minus_1_is_no_record() {
+        let file = record(1, b"\x88\xff\xff\xff\xff\xff\xff\xff\xff", &[]);
+        assert_eq!(Records::of(&file).count(), 0);
+        let mut upload = Arriving::new(usize::MAX);
+        assert_eq!(upload.next_klv(&file), Ok(None));
+        assert_eq!(upload.cursor(), 25, "a value that ends past every limit is searched");
+    }
+
+    #[test]
+    fn refusals_leave_the_cursor() {
+        let file = record(1, &[0], &[]);
+        assert_eq!(next_klv(&file, 18, 0), Err(Refusal::EndPastBuffer));
+        assert_eq!(Records::before(&file, usize::MAX).unwrap_err(), Refusal::EndPastBuffer);
+        assert_eq!(records_into(&file, 18, 0, &mut [[7; 3]]), Err(Refusal::EndPastBuffer));
+        let mut upload = Arriving::new(16);
+        assert_eq!(upload.next_klv(&file), Err(Refusal::PastLimit));
+        assert!(upload.feed(&file).is_err_and(|refusal| refusal == Refusal::PastLimit));
+        assert_eq!(upload.feed_into(&file, &mut [[7; 3]]), Err(Refusal::PastLimit));
+        assert_eq!(upload.cursor(), 0);
+    }
+
+    #[test]
+    fn an_iterator_that_is_dropped_loses_no_record() {
+        let file = [record(1, &[0], &[]), record(2, &[0], &[])].concat();
+        let mut upload = Arriving::new(100);
+        assert_eq!(upload.feed(&file).unwrap().next().map(|record| record.place), Some(0));
+        assert_eq!(upload.feed(&file).unwrap().next().map(|record| record.place), Some(17));
+    }
+
+    #[test]
+    fn bytes_one_at_a_time_give_the_same_list() {
+        let file = [record(1, &[0x82, 0, 3], b"abc"), b"between".to_vec(), record(2, &[1], b"x")].concat();
+        let mut upload = Arriving::new(file.len());
+        let mut places = Vec::new();
+        for arrived in 0..=file.len() {
+            places.extend(upload.feed(&file[..arrived]).unwrap().map(|record| record.place));
+        }
+        assert_eq!(places, Records::of(&file).map(|record| record.place).collect::<Vec<_>>());
+        assert_eq!(places, [0, 29]);
+    }
+
+    #[test]
+    fn room_past_the_last_record_keeps_its_contents() {
+        let mut room = [[7; 3]; 2];
+        assert_eq!(records_into(&record(1, &[0], &[]), 17, 0, &mut room), Ok(Filled { records: 1, next: 17 }));
+        assert_eq!(room, [[0, 17, 0], [7; 3]]);
+    }
+
+    #[test]
+    fn a_65th_label_is_other() {
+        let file: Vec<u8> = (0..65).flat_map(|kind| record(kind, &[0], &[])).collect();
+        let tally = tally(&file);
+        assert_eq!((tally.groups().count(), tally.other), (64, 1));
+    }
+}

@@ -1,0 +1,154 @@
+//! What calls say of the same bytes agrees: over buffers drawn from a seed, of pieces that make records, sets and lines.
+
+use brinethimble::*;
+
+/// Pieces of which the buffers are made.
+const PIECES: [&[u8]; 12] = [
+    b"\x06\x0e\x2b\x34",
+    b"\x06\x0e\x2b\x34\x01\x02\x01\x01\x0d\x01\x03\x01\x17\x01\x02\x01",
+    b"\x06\x0e\x2b\x34\x02\x43\x01\x01\x0d\x01\x03\x01\x04\x01\x03\x01",
+    b"\x06\x0e\x2b\x34\x02\x43\x01\x01\x0d\x01\x03\x01\x04\x01\x02\x03",
+    b"\x06\x0e\x2b\x34\x01\x01\x01\x0d\x0e\x15\x00\x01\x00\x01\x00\x00",
+    b"\x00",
+    b"\x03",
+    b"\x81\x14",
+    b"\x88\xff\xff\xff\xff\xff\xff\xff\xff",
+    b"\x89",
+    b"\x00\x02\x00\x09\x00\x00\x00\x06\x00\x00\x00\x06\x00\x00\x00\x01\x43\x05\x00\x00ab",
+    b"\x88\x00\x12",
+];
+
+/// Numbers that follow from a seed.
+struct Draw(u64);
+
+impl Draw {
+    /// A number below a bound.
+    fn below(&mut self, bound: usize) -> usize {
+        self.0 = self.0.wrapping_mul(6_364_136_223_846_793_005).wrapping_add(1_442_695_040_888_963_407);
+        (self.0 >> 33) as usize % bound
+    }
+
+    /// A buffer of up to 24 pieces.
+    fn buffer(&mut self) -> Vec<u8> {
+        (0..self.below(25)).flat_map(|_| PIECES[self.below(PIECES.len())]).copied().collect()
+    }
+}
+
+/// Tries what holds of every buffer on 20,000 of them, with a number below twice its length.
+fn on_buffers(holds: impl Fn(&[u8], usize)) {
+    let mut draw = Draw(1);
+    for _ in 0..20_000 {
+        let buffer = draw.buffer();
+        let number = draw.below(2 * buffer.len() + 2);
+        holds(&buffer, number);
+    }
+}
+
+/// A record's three places.
+fn places(record: Record) -> [u64; 3] {
+    [record.place, record.value_place, record.value.len()].map(|place| place as u64)
+}
+
+#[test]
+fn batches_and_steps_give_the_same_records() {
+    on_buffers(|s, room| {
+        let mut batches = Vec::new();
+        let mut lent = vec![[0; 3]; 1 + room % 4];
+        let mut at = 0;
+        loop {
+            let filled = records_into(s, s.len(), at, &mut lent).unwrap();
+            batches.extend_from_slice(&lent[..filled.records]);
+            at = filled.next;
+            if filled.records < lent.len() {
+                break;
+            }
+        }
+        let mut records = Records::of(s);
+        assert_eq!(batches, records.by_ref().map(places).collect::<Vec<_>>());
+        assert_eq!(at, records.cursor());
+    });
+}
+
+#[test]
+fn an_end_past_the_buffer_is_refused_by_all_and_no_other_is() {
+    on_buffers(|s, end| {
+        let refused = end > s.len();
+        assert_eq!(Records::before(s, end).is_err(), refused);
+        assert_eq!(next_klv(s, end, 0).is_err(), refused);
+        assert_eq!(records_into(s, end, 0, &mut []).is_err(), refused);
+        assert_eq!(Sony::new(s, end).is_err(), refused);
+        assert_eq!(Arri::new(s, end).is_err(), refused);
+        assert_eq!(Canon::new(s, end).is_err(), refused);
+    });
+}
+
+#[test]
+fn what_has_arrived_begins_the_finished_list() {
+    on_buffers(|s, limit| {
+        let limit = limit.max(s.len());
+        let finished: Vec<_> = Records::of(s).map(places).collect();
+        let mut upload = Arriving::new(limit);
+        let mut arrived = Vec::new();
+        for count in [s.len() / 3, s.len() / 2, s.len()] {
+            arrived.extend(upload.feed(&s[..count]).unwrap().map(places));
+        }
+        assert!(finished.starts_with(&arrived));
+        let mut room = vec![[0; 3]; finished.len() + 1];
+        let mut again = Arriving::new(limit);
+        assert_eq!(again.feed_into(s, &mut room), Ok(arrived.len()));
+        assert_eq!((&room[..arrived.len()], again.cursor()), (&arrived[..], upload.cursor()));
+    });
+}
+
+#[test]
+fn every_record_is_in_one_group_of_its_label_or_in_none() {
+    on_buffers(|s, _| {
+        let tally = tally(s);
+        let of = |place: usize| Records::of(s).filter(|record| same_label(record.label, &s[place..place + 16])).count();
+        assert!(tally.groups().all(|(first, count)| count == of(first)));
+        assert_eq!(tally.groups().map(|(_, count)| count).sum::<usize>() + tally.other as usize, Records::of(s).count());
+    });
+}
+
+#[test]
+fn frames_are_records_and_numbered_in_turn() {
+    on_buffers(|s, end| {
+        let end = end.min(s.len());
+        let records: Vec<_> = Records::before(s, end).unwrap().collect();
+        let mut canon = Vec::new();
+        for item in Canon::new(s, end).unwrap() {
+            match item {
+                CanonItem::Frame(frame) => canon.push(frame),
+                CanonItem::Given(record) => assert!(records.contains(&record)),
+            }
+        }
+        for frames in [Sony::new(s, end).unwrap().collect(), Arri::new(s, end).unwrap().collect(), canon] {
+            assert!(frames.iter().enumerate().all(|(i, frame)| frame.number == i as u64 && records.contains(&frame.element)));
+        }
+    });
+}
+
+#[test]
+fn a_payload_is_its_lines_payloads() {
+    on_buffers(|s, length| {
+        let joined: Vec<u8> = lines(s).flatten().copied().collect();
+        let mut room = vec![7; length];
+        match payload_into(s, &mut room) {
+            Ok(count) => assert_eq!(room[..count], joined),
+            Err(refusal) => assert_eq!(refusal, Refusal::NoRoom { needed: joined.len() }),
+        }
+        assert!(room[joined.len().min(length)..].iter().all(|byte| *byte == 7));
+    });
+}
+
+#[test]
+fn runs_and_items_follow_each_other() {
+    on_buffers(|s, _| {
+        let ends = |at: usize, record: Record| (record.place == at).then_some(record.value_place + record.value.len());
+        assert!(klvs(s).try_fold(0, ends).is_some());
+        for coding in [Coding::ONE, Coding::TWO, Coding::BER] {
+            let ends = |at: usize, item: Item| (item.place == at).then_some(item.value_place + item.value.len());
+            assert!(local_items(s, coding).try_fold(0, ends).is_some());
+        }
+    });
+}
