@@ -6,7 +6,6 @@
 #include <string.h>
 
 #define PAYLOAD_ROOM 4096
-#define TEXT_ROOM 256
 
 /* ---- What is said ---------------------------------------------------------------------------------------------------- */
 
@@ -20,29 +19,63 @@ static void say_record(struct upload *u, const uint64_t out[5])
     u->records++;
 }
 
-/* Says a frame that a camera's step found. */
+/* Says a frame that a camera's step found, in one line though other uploads speak, too. */
 static void say_frame(const struct upload *u, const struct camera *c, const uint64_t out[8])
 {
-    char text[TEXT_ROOM] = " over-long";
-    if (out[5] == 0)
-        c->tell(u, out, text, sizeof text);
-    printf("%s frame %s %" PRIu64 " %" PRIu64 " %" PRIu64 " %" PRIu64 "%s\n", u->id, c->name, out[1], out[2], out[3], out[4], text);
+    flockfile(stdout);
+    printf("%s frame %s %" PRIu64 " %" PRIu64 " %" PRIu64 " %" PRIu64, u->id, c->name, out[1], out[2], out[3], out[4]);
+    if (out[5] == 1)
+        printf(" over-long");
+    else
+        c->tell(u, out);
+    printf("\n");
+    funlockfile(stdout);
 }
 
 /* Tells how long the payload of a Sony frame is; what there is no room for is refused with the length that it needs. */
-static void tell_payload(const struct upload *u, const uint64_t frame[8], char *text, size_t room)
+static void tell_payload(const struct upload *u, const uint64_t frame[8])
 {
     uint8_t payload[PAYLOAD_ROOM];
     uint64_t length;
     uint32_t status = brine_payload(u->bytes + frame[3], frame[4], payload, sizeof payload, &length);
-    snprintf(text, room, " payload %" PRIu64 "%s", length, status == BRINE_NO_ROOM ? " refused 3" : "");
+    printf(" payload %" PRIu64 "%s", length, status == BRINE_NO_ROOM ? " refused 3" : "");
 }
 
-/* Tells nothing more of a frame. */
-static void tell_nothing(const struct upload *u, const uint64_t frame[8], char *text, size_t room)
+/* Tells a figure that is there. */
+static void tell_figure(uint64_t present, const char *name, double figure)
 {
-    (void)u, (void)frame, (void)room;
-    text[0] = 0;
+    if (present == BRINE_FOUND)
+        printf(" %s %.3f", name, figure);
+}
+
+/* Tells a whole number that is there. */
+static void tell_whole(bool present, const char *name, uint64_t number)
+{
+    if (present)
+        printf(" %s %" PRIu64, name, number);
+}
+
+/* Tells the lens, focus, exposure and tilt of an ARRI frame, what there is of them. */
+static void tell_values(const struct upload *u, const uint64_t frame[8])
+{
+    uint64_t found, present[19], whole[9];
+    float singles[6];
+    double doubles[8];
+    brine_arri_values(u->bytes, u->arrived, frame + 2, &found, present, whole, singles, doubles);
+    if (found == BRINE_NOTHING)
+        printf(" no values");
+    tell_figure(present[BRINE_FOCAL_LENGTH], "focal", singles[0]);
+    tell_figure(present[BRINE_FOCUS_DISTANCE], "focus", singles[1]);
+    if (present[BRINE_FOCUS_DISTANCE] == BRINE_INFINITY)
+        printf(" focus infinity");
+    tell_figure(present[BRINE_T_STOP], "stop", singles[2]);
+    tell_whole(present[BRINE_T_STOP] == BRINE_LINEAR, "linear-stop", whole[0]);
+    tell_figure(present[BRINE_EXPOSURE_TIME], "exposure", doubles[0]);
+    tell_figure(present[BRINE_SHUTTER_ANGLE], "shutter", singles[3]);
+    tell_figure(present[BRINE_TILT_ROLL], "tilt", singles[4]);
+    tell_figure(present[BRINE_TILT_ROLL], "roll", singles[5]);
+    tell_whole(present[BRINE_EXPOSURE_INDEX] == BRINE_FOUND, "index", whole[1]);
+    tell_whole(present[BRINE_WHITE_BALANCE] == BRINE_FOUND, "balance", whole[2]);
 }
 
 /* ---- Bytes that arrive ----------------------------------------------------------------------------------------------- */
@@ -55,7 +88,7 @@ bool upload_start(struct upload *u, const char *id, size_t limit)
         .bytes = malloc(1), /* the library takes no NULL */
         .cameras = {
             {.name = "sony", .step = brine_sony_step, .tell = tell_payload},
-            {.name = "arri", .step = brine_arri_step, .tell = tell_nothing},
+            {.name = "arri", .step = brine_arri_step, .tell = tell_values},
         },
     };
     snprintf(u->id, sizeof u->id, "%s", id);

@@ -4,7 +4,8 @@
  *
  * What is said of an upload, a line each, as soon as it is certain:
  *   ID record PLACE LABEL VALUE LENGTH
- *   ID frame CAMERA NUMBER PLACE VALUE LENGTH, then over-long, or what the camera's frames have
+ *   ID frame sony NUMBER PLACE VALUE LENGTH, then the payload's length, or over-long
+ *   ID frame arri NUMBER PLACE VALUE LENGTH, then the frame's values, or over-long
  *   ID waits PLACE ARRIVED
  *   ID refused STATUS, or ID no memory
  *   ID records N frames M */
@@ -22,7 +23,7 @@ struct upload;
 struct camera {
     const char *name;
     uint32_t (*step)(const uint8_t *s, size_t s_len, size_t end, size_t at, uint64_t number, uint64_t out[8]);
-    void (*tell)(const struct upload *u, const uint64_t frame[8], char *text, size_t room);
+    void (*tell)(const struct upload *u, const uint64_t frame[8]);
     size_t at;
     uint64_t number;
 };

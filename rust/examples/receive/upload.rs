@@ -6,13 +6,14 @@
 //!
 //! ```text
 //! ID record PLACE LABEL VALUE LENGTH
-//! ID frame CAMERA NUMBER PLACE VALUE LENGTH, then over-long, or what the camera's frames have
+//! ID frame sony NUMBER PLACE VALUE LENGTH, then the payload's length, or over-long
+//! ID frame arri NUMBER PLACE VALUE LENGTH, then the frame's values, or over-long
 //! ID waits PLACE ARRIVED
 //! ID refused STATUS, or ID no memory
 //! ID records N frames M
 //! ```
 
-use brinethimble::{Arri, Arriving, Frame, Record, Refusal, Sony, next_klv, payload_into};
+use brinethimble::{Arri, Arriving, Distance, Frame, FrameValues, Record, Refusal, Sony, TStop, next_klv, payload_into, values_of};
 
 const PAYLOAD_ROOM: usize = 4096;
 
@@ -50,11 +51,11 @@ impl Camera {
     }
 
     /// What is told of a frame besides its places.
-    fn tell(self, frame: &Frame) -> String {
+    fn tell(self, s: &[u8], frame: &Frame) -> String {
         match self {
             _ if frame.overlong => " over-long".into(),
             Camera::Sony => tell_payload(frame),
-            Camera::Arri => String::new(),
+            Camera::Arri => values_of(s, frame).map_or(" no values".into(), |values| tell_values(&values)),
         }
     }
 }
@@ -66,6 +67,33 @@ fn tell_payload(frame: &Frame) -> String {
         Err(Refusal::NoRoom { needed }) => format!(" payload {needed} refused 3"),
         Err(refusal) => format!(" refused {}", refusal.number()),
     }
+}
+
+/// The lens, focus, exposure and tilt of an ARRI frame, what there is of them.
+fn tell_values(values: &FrameValues) -> String {
+    let figure = |name, figure: Option<f64>| figure.map(|figure| format!(" {name} {figure:.3}"));
+    let single = |name, single: Option<f32>| figure(name, single.map(f64::from));
+    let whole = |name, whole: Option<u32>| whole.map(|whole| format!(" {name} {whole}"));
+    let focus = values.focus_distance.map(|distance| match distance {
+        Distance::Metres(metres) => format!(" focus {metres:.3}"),
+        Distance::Infinity => " focus infinity".into(),
+    });
+    let stop = values.t_stop.map(|stop| match stop {
+        TStop::Is(stop) => format!(" stop {stop:.3}"),
+        TStop::Linear(number) => format!(" linear-stop {number}"),
+    });
+    let told = [
+        single("focal", values.focal_length),
+        focus,
+        stop,
+        figure("exposure", values.exposure_time),
+        single("shutter", values.shutter_angle),
+        single("tilt", values.tilt_roll.map(|(tilt, _)| tilt)),
+        single("roll", values.tilt_roll.map(|(_, roll)| roll)),
+        whole("index", values.exposure_index),
+        whole("balance", values.white_balance),
+    ];
+    told.into_iter().flatten().collect()
 }
 
 /// An upload. What is allocated for `bytes` is at most twice what has arrived, and never more than the limit and a byte.
@@ -126,7 +154,7 @@ impl Upload {
             while let Some(record) = walk.next_klv(&self.bytes)? {
                 let found = camera.step(&self.bytes, walk.cursor(), (record.place, cursor.1))?;
                 let Some((frame, next)) = found else { continue };
-                say_frame(&self.id, *camera, &frame);
+                say_frame(&self.id, *camera, &self.bytes, &frame);
                 *cursor = next;
                 walk = Arriving::from_cursor(self.limit, cursor.0);
             }
@@ -152,7 +180,7 @@ impl Upload {
         let mut frames = 0;
         for (camera, mut cursor) in self.cameras {
             while let Ok(Some((frame, next))) = camera.step(s, end, cursor) {
-                say_frame(&self.id, camera, &frame);
+                say_frame(&self.id, camera, s, &frame);
                 cursor = next;
             }
             frames += cursor.1;
@@ -167,8 +195,8 @@ fn say_record(id: &str, record: &Record) {
     println!("{id} record {} {label:032x} {} {}", record.place, record.value_place, record.value.len());
 }
 
-/// Says a frame.
-fn say_frame(id: &str, camera: Camera, frame: &Frame) {
-    let (name, element, told) = (camera.name(), &frame.element, camera.tell(frame));
+/// Says a frame of the bytes that have arrived.
+fn say_frame(id: &str, camera: Camera, s: &[u8], frame: &Frame) {
+    let (name, element, told) = (camera.name(), &frame.element, camera.tell(s, frame));
     println!("{id} frame {name} {} {} {} {}{told}", frame.number, element.place, element.value_place, element.value.len());
 }
