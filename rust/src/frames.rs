@@ -50,8 +50,7 @@ struct Walk<'a> {
 }
 
 impl<'a> Walk<'a> {
-    /// The walk from a cursor and the next frame's number. A step at the end finds nothing, and is refused where every other
-    /// would be.
+    /// The walk from a cursor and the next frame's number, refused where every step would be: one at the end finds nothing.
     fn new(s: &'a [u8], end: usize, step: Step, (at, number): (usize, u64)) -> Result<Self, Refusal> {
         step(s, end, end, 0)?;
         Ok(Walk { s, end, step, at, number })

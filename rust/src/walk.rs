@@ -67,6 +67,7 @@ impl<'a> Records<'a> {
     /// # Ok::<(), Refusal>(())
     /// ```
     pub fn before(s: &'a [u8], end: usize) -> Result<Self, Refusal> {
+        // A step at the end finds nothing, and is refused where every other would be.
         boundary::step(s, end, end)?;
         Ok(Records { s, end, at: 0 })
     }
@@ -166,6 +167,7 @@ impl Arriving {
     /// # Ok::<(), brinethimble::Refusal>(())
     /// ```
     pub fn feed<'a>(&mut self, a: &'a [u8]) -> Result<impl Iterator<Item = Record<'a>>, Refusal> {
+        // As in `Records::before`: this step only refuses.
         boundary::arrive(a, self.limit, a.len())?;
         Ok(std::iter::from_fn(move || self.next_klv(a).ok()?))
     }
