@@ -77,8 +77,8 @@ static void *receive(void *connection)
             upload_finish(&u);
         upload_end(&u);
     }
+    atomic_fetch_sub(&uploads, 1); /* before the sender can know that its upload is over */
     close(from);
-    atomic_fetch_sub(&uploads, 1);
     return NULL;
 }
 

@@ -47,14 +47,15 @@ fn serve(port: u16, limit: usize) -> Result<()> {
     let listener = TcpListener::bind((Ipv4Addr::LOCALHOST, port))?;
     println!("listening {}", listener.local_addr()?.port());
     loop {
-        let Ok((connection, _)) = listener.accept() else { continue };
+        let Ok((mut connection, _)) = listener.accept() else { continue };
         if UPLOADS.fetch_add(1, Ordering::Relaxed) >= MOST_UPLOADS {
             UPLOADS.fetch_sub(1, Ordering::Relaxed);
             continue;
         }
         let receiving = move || {
-            receive(connection, limit);
-            UPLOADS.fetch_sub(1, Ordering::Relaxed);
+            receive(&mut connection, limit);
+            UPLOADS.fetch_sub(1, Ordering::Relaxed); // before the sender can know that its upload is over
+            drop(connection);
         };
         if thread::Builder::new().spawn(receiving).is_err() {
             UPLOADS.fetch_sub(1, Ordering::Relaxed);
@@ -63,11 +64,11 @@ fn serve(port: u16, limit: usize) -> Result<()> {
 }
 
 /// Receives one upload.
-fn receive(mut connection: TcpStream, limit: usize) {
-    let Some(id) = read_id(&mut connection) else { return };
+fn receive(connection: &mut TcpStream, limit: usize) {
+    let Some(id) = read_id(connection) else { return };
     let mut upload = Upload::new(id, limit);
     let quiet = connection.set_read_timeout(Some(QUIET));
-    if quiet.is_ok() && take_all(&mut connection, &mut upload) {
+    if quiet.is_ok() && take_all(connection, &mut upload) {
         upload.finish();
     }
 }
