@@ -50,10 +50,10 @@ struct Walk<'a> {
 }
 
 impl<'a> Walk<'a> {
-    /// The walk from the start, refused where every step would be: one at the end finds nothing.
-    fn new(s: &'a [u8], end: usize, step: Step) -> Result<Self, Refusal> {
+    /// The walk from a cursor and the next frame's number, refused where every step would be: one at the end finds nothing.
+    fn new(s: &'a [u8], end: usize, step: Step, (at, number): (usize, u64)) -> Result<Self, Refusal> {
         step(s, end, end, 0)?;
-        Ok(Walk { s, end, step, at: 0, number: 0 })
+        Ok(Walk { s, end, step, at, number })
     }
 
     /// What the next step gives.
@@ -96,7 +96,31 @@ impl<'a> Sony<'a> {
     /// # Ok::<(), Refusal>(())
     /// ```
     pub fn new(s: &'a [u8], end: usize) -> Result<Self, Refusal> {
-        Walk::new(s, end, boundary::sony_step).map(Sony)
+        Sony::from_cursor(s, end, (0, 0))
+    }
+
+    /// The same from a cursor and the next frame's number.
+    ///
+    /// ```
+    /// let ancillary = *b"\x06\x0e\x2b\x34\x01\x02\x01\x01\x0d\x01\x03\x01\x17\x01\x02\x01";
+    /// let file = [&ancillary[..], &[0], &ancillary, &[0]].concat();
+    /// let mut walk = brinethimble::Sony::from_cursor(&file, 34, (17, 5))?;
+    /// assert_eq!(walk.next().map(|frame| frame.number), Some(5));
+    /// assert_eq!(walk.cursor(), (34, 6));
+    /// # Ok::<(), brinethimble::Refusal>(())
+    /// ```
+    pub fn from_cursor(s: &'a [u8], end: usize, cursor: (usize, u64)) -> Result<Self, Refusal> {
+        Walk::new(s, end, boundary::sony_step, cursor).map(Sony)
+    }
+
+    /// Where the walk is, and the next frame's number.
+    ///
+    /// ```
+    /// assert_eq!(brinethimble::Sony::new(&[], 0)?.cursor(), (0, 0));
+    /// # Ok::<(), brinethimble::Refusal>(())
+    /// ```
+    pub fn cursor(&self) -> (usize, u64) {
+        (self.0.at, self.0.number)
     }
 }
 
@@ -123,7 +147,31 @@ impl<'a> Arri<'a> {
     /// # Ok::<(), brinethimble::Refusal>(())
     /// ```
     pub fn new(s: &'a [u8], end: usize) -> Result<Self, Refusal> {
-        Walk::new(s, end, boundary::arri_step).map(Arri)
+        Arri::from_cursor(s, end, (0, 0))
+    }
+
+    /// The same from a cursor and the next frame's number.
+    ///
+    /// ```
+    /// let picture = *b"\x06\x0e\x2b\x34\x02\x43\x01\x01\x0d\x01\x03\x01\x04\x01\x03\x01";
+    /// let file = [&picture[..], &[0], &picture, &[0]].concat();
+    /// let mut walk = brinethimble::Arri::from_cursor(&file, 34, (17, 5))?;
+    /// assert_eq!(walk.next().map(|frame| frame.number), Some(5));
+    /// assert_eq!(walk.cursor(), (34, 6));
+    /// # Ok::<(), brinethimble::Refusal>(())
+    /// ```
+    pub fn from_cursor(s: &'a [u8], end: usize, cursor: (usize, u64)) -> Result<Self, Refusal> {
+        Walk::new(s, end, boundary::arri_step, cursor).map(Arri)
+    }
+
+    /// Where the walk is, and the next frame's number.
+    ///
+    /// ```
+    /// assert_eq!(brinethimble::Arri::new(&[], 0)?.cursor(), (0, 0));
+    /// # Ok::<(), brinethimble::Refusal>(())
+    /// ```
+    pub fn cursor(&self) -> (usize, u64) {
+        (self.0.at, self.0.number)
     }
 }
 
@@ -159,7 +207,33 @@ impl<'a> Canon<'a> {
     /// # Ok::<(), brinethimble::Refusal>(())
     /// ```
     pub fn new(s: &'a [u8], end: usize) -> Result<Self, Refusal> {
-        Walk::new(s, end, boundary::canon_step).map(Canon)
+        Canon::from_cursor(s, end, (0, 0))
+    }
+
+    /// The same from a cursor and the next frame's number.
+    ///
+    /// ```
+    /// use brinethimble::{Canon, CanonItem};
+    ///
+    /// let ancillary = *b"\x06\x0e\x2b\x34\x01\x02\x01\x01\x0d\x01\x03\x01\x17\x01\x02\x01";
+    /// let file = [&ancillary[..], &[0], &ancillary, &[0]].concat();
+    /// let mut walk = Canon::from_cursor(&file, 34, (17, 5))?;
+    /// assert!(matches!(walk.next(), Some(CanonItem::Frame(frame)) if frame.number == 5));
+    /// assert_eq!(walk.cursor(), (34, 6));
+    /// # Ok::<(), brinethimble::Refusal>(())
+    /// ```
+    pub fn from_cursor(s: &'a [u8], end: usize, cursor: (usize, u64)) -> Result<Self, Refusal> {
+        Walk::new(s, end, boundary::canon_step, cursor).map(Canon)
+    }
+
+    /// Where the walk is, and the next frame's number.
+    ///
+    /// ```
+    /// assert_eq!(brinethimble::Canon::new(&[], 0)?.cursor(), (0, 0));
+    /// # Ok::<(), brinethimble::Refusal>(())
+    /// ```
+    pub fn cursor(&self) -> (usize, u64) {
+        (self.0.at, self.0.number)
     }
 }
 

@@ -111,7 +111,20 @@ impl Arriving {
     /// assert_eq!(upload.cursor(), 0);
     /// ```
     pub fn new(limit: usize) -> Self {
-        Arriving { limit, at: 0 }
+        Arriving::from_cursor(limit, 0)
+    }
+
+    /// The walk of an upload of at most so many bytes, from a cursor.
+    ///
+    /// ```
+    /// let label = *b"\x06\x0e\x2b\x34\x01\x01\x01\x0d\x0e\x15\x00\x01\x00\x01\x00\x00";
+    /// let file = [&label[..], &[1, 7], &label, &[0]].concat();
+    /// let mut upload = brinethimble::Arriving::from_cursor(1000, 18);
+    /// assert_eq!(upload.next_klv(&file)?.map(|record| record.place), Some(18));
+    /// # Ok::<(), brinethimble::Refusal>(())
+    /// ```
+    pub fn from_cursor(limit: usize, at: usize) -> Self {
+        Arriving { limit, at }
     }
 
     /// Where the walk is: where it waits, once a step has given no record.

@@ -46,3 +46,8 @@ pub fn is_frame(label: &[u8; 16]) -> bool {
 pub fn walk(bytes: &[u8], end: u64, progress: impl Fn(f64)) {
     let _ = ArriRaw.parse_mxf(&mut Cursor::new(bytes), end, progress, &AtomicBool::new(false), &InputOptions::default());
 }
+
+/// Reads a stream of so many bytes as the published reader does, header metadata and frames, and gives the number of samples.
+pub fn read<T: Read + Seek>(stream: &mut T, size: u64) -> usize {
+    ArriRaw.parse_mxf(stream, size, |_| (), &AtomicBool::new(false), &InputOptions::default()).map_or(0, |samples| samples.len())
+}

@@ -1,0 +1,195 @@
+#include "upload.h"
+
+#include <inttypes.h>
+#include <stdio.h>
+#include <stdlib.h>
+#include <string.h>
+
+#define PAYLOAD_ROOM 4096
+
+/* ---- What is said ---------------------------------------------------------------------------------------------------- */
+
+/* Says a record that a step found. */
+static void say_record(struct upload *u, const uint64_t out[5])
+{
+    char label[33];
+    for (size_t i = 0; i < 16; i++)
+        snprintf(label + 2 * i, 3, "%02x", u->bytes[out[1] + i]);
+    printf("%s record %" PRIu64 " %s %" PRIu64 " %" PRIu64 "\n", u->id, out[1], label, out[2], out[3]);
+    u->records++;
+}
+
+/* Says a frame that a camera's step found, in one line though other uploads speak, too. */
+static void say_frame(const struct upload *u, const struct camera *c, const uint64_t out[8])
+{
+    flockfile(stdout);
+    printf("%s frame %s %" PRIu64 " %" PRIu64 " %" PRIu64 " %" PRIu64, u->id, c->name, out[1], out[2], out[3], out[4]);
+    if (out[5] == 1)
+        printf(" over-long");
+    else
+        c->tell(u, out);
+    printf("\n");
+    funlockfile(stdout);
+}
+
+/* Tells how long the payload of a Sony frame is; what there is no room for is refused with the length that it needs. */
+static void tell_payload(const struct upload *u, const uint64_t frame[8])
+{
+    uint8_t payload[PAYLOAD_ROOM];
+    uint64_t length;
+    uint32_t status = brine_payload(u->bytes + frame[3], frame[4], payload, sizeof payload, &length);
+    printf(" payload %" PRIu64 "%s", length, status == BRINE_NO_ROOM ? " refused 3" : "");
+}
+
+/* Tells a figure that is there. */
+static void tell_figure(uint64_t present, const char *name, double figure)
+{
+    if (present == BRINE_FOUND)
+        printf(" %s %.3f", name, figure);
+}
+
+/* Tells a whole number that is there. */
+static void tell_whole(bool present, const char *name, uint64_t number)
+{
+    if (present)
+        printf(" %s %" PRIu64, name, number);
+}
+
+/* Tells the lens, focus, exposure and tilt of an ARRI frame, what there is of them. */
+static void tell_values(const struct upload *u, const uint64_t frame[8])
+{
+    uint64_t found, present[19], whole[9];
+    float singles[6];
+    double doubles[8];
+    brine_arri_values(u->bytes, u->arrived, frame + 2, &found, present, whole, singles, doubles);
+    if (found == BRINE_NOTHING)
+        printf(" no values");
+    tell_figure(present[BRINE_FOCAL_LENGTH], "focal", singles[0]);
+    tell_figure(present[BRINE_FOCUS_DISTANCE], "focus", singles[1]);
+    if (present[BRINE_FOCUS_DISTANCE] == BRINE_INFINITY)
+        printf(" focus infinity");
+    tell_figure(present[BRINE_T_STOP], "stop", singles[2]);
+    tell_whole(present[BRINE_T_STOP] == BRINE_LINEAR, "linear-stop", whole[0]);
+    tell_figure(present[BRINE_EXPOSURE_TIME], "exposure", doubles[0]);
+    tell_figure(present[BRINE_SHUTTER_ANGLE], "shutter", singles[3]);
+    tell_figure(present[BRINE_TILT_ROLL], "tilt", singles[4]);
+    tell_figure(present[BRINE_TILT_ROLL], "roll", singles[5]);
+    tell_whole(present[BRINE_EXPOSURE_INDEX] == BRINE_FOUND, "index", whole[1]);
+    tell_whole(present[BRINE_WHITE_BALANCE] == BRINE_FOUND, "balance", whole[2]);
+}
+
+/* ---- Bytes that arrive ----------------------------------------------------------------------------------------------- */
+
+bool upload_start(struct upload *u, const char *id, size_t limit)
+{
+    *u = (struct upload){
+        .limit = limit,
+        .room = 1,
+        .bytes = malloc(1), /* the library takes no NULL */
+        .cameras = {
+            {.name = "sony", .step = brine_sony_step, .tell = tell_payload},
+            {.name = "arri", .step = brine_arri_step, .tell = tell_values},
+        },
+    };
+    snprintf(u->id, sizeof u->id, "%s", id);
+    return u->bytes != NULL;
+}
+
+/* Makes room for bytes that are here, by doubling: no length that a stranger claims is asked for. */
+static bool make_room(struct upload *u, size_t needed)
+{
+    if (needed <= u->room)
+        return true;
+    size_t room = 2 * u->room < needed ? needed : 2 * u->room;
+    if (room > u->limit + 1)
+        room = u->limit + 1;
+    uint8_t *bytes = realloc(u->bytes, room);
+    if (bytes == NULL)
+        return false;
+    u->bytes = bytes;
+    u->room = room;
+    return true;
+}
+
+/* Says the records that have become certain, and gives brine_arrive's status. */
+static uint32_t follow_records(struct upload *u)
+{
+    uint64_t out[5];
+    do {
+        uint32_t status = brine_arrive(u->bytes, u->arrived, u->limit, u->at, out);
+        if (status != BRINE_DONE)
+            return status;
+        u->at = out[4];
+        if (out[0] == BRINE_FOUND)
+            say_record(u, out);
+    } while (out[0] == BRINE_FOUND);
+    return BRINE_DONE;
+}
+
+/* Says the frames that have become certain: of each record of the camera's own walk, the frame that it alone is. */
+static void follow_frames(struct upload *u, struct camera *c)
+{
+    uint64_t record[5], frame[8];
+    while (brine_arrive(u->bytes, u->arrived, u->limit, c->at, record) == BRINE_DONE) {
+        c->at = record[4];
+        if (record[0] == BRINE_NOTHING)
+            return;
+        if (c->step(u->bytes, u->arrived, record[4], record[1], c->number, frame) != BRINE_DONE || frame[0] == BRINE_NOTHING)
+            continue;
+        say_frame(u, c, frame);
+        c->at = frame[6];
+        c->number = frame[7];
+    }
+}
+
+bool upload_take(struct upload *u, const uint8_t *piece, size_t length)
+{
+    size_t most = u->limit + 1 - u->arrived; /* a byte past the limit, for the library to refuse */
+    if (length > most)
+        length = most;
+    if (!make_room(u, u->arrived + length)) {
+        printf("%s no memory\n", u->id);
+        return false;
+    }
+    memcpy(u->bytes + u->arrived, piece, length);
+    u->arrived += length;
+    uint32_t status = follow_records(u);
+    if (status != BRINE_DONE) {
+        printf("%s refused %" PRIu32 "\n", u->id, status);
+        return false;
+    }
+    for (size_t i = 0; i < CAMERAS; i++)
+        follow_frames(u, &u->cameras[i]);
+    return true;
+}
+
+void upload_waits(const struct upload *u)
+{
+    printf("%s waits %zu %zu\n", u->id, u->at, u->arrived);
+}
+
+/* ---- The end --------------------------------------------------------------------------------------------------------- */
+
+void upload_finish(struct upload *u)
+{
+    uint64_t record[5], frame[8], frames = 0;
+    while (brine_step(u->bytes, u->arrived, u->arrived, u->at, record) == BRINE_DONE && record[0] == BRINE_FOUND) {
+        u->at = record[4];
+        say_record(u, record);
+    }
+    for (struct camera *c = u->cameras; c < u->cameras + CAMERAS; c++) {
+        while (c->step(u->bytes, u->arrived, u->arrived, c->at, c->number, frame) == BRINE_DONE && frame[0] == BRINE_FOUND) {
+            say_frame(u, c, frame);
+            c->at = frame[6];
+            c->number = frame[7];
+        }
+        frames += c->number;
+    }
+    printf("%s records %" PRIu64 " frames %" PRIu64 "\n", u->id, u->records, frames);
+}
+
+void upload_end(struct upload *u)
+{
+    free(u->bytes);
+    u->bytes = NULL;
+}
