@@ -106,4 +106,6 @@ returns-12 c = rw (c .enum-told8 .given .1)
 pub whole-of-spec : {M : Type 1} → statement M
 whole-of-spec =
     tie.close
-    (tie.spec enum-told enum-known-v cast-result enum-known-v-2 cast-result-2 enum-known-v-3 twos-requires enum-told-2 enum-known-v-4 mark-requires enum-told-3 enum-told-4 enum-told-5 enum-told-6 enum-told-7 enum-told-8 returns returns-2 returns-3 returns-4 returns-5 returns-6 returns-7 returns-8 returns-9 returns-10 returns-11 returns-12)
+    (tie.spec enum-told enum-known-v cast-result enum-known-v-2 cast-result-2 enum-known-v-3 twos-requires enum-told-2
+    enum-known-v-4 mark-requires enum-told-3 enum-told-4 enum-told-5 enum-told-6 enum-told-7 enum-told-8 returns returns-2
+    returns-3 returns-4 returns-5 returns-6 returns-7 returns-8 returns-9 returns-10 returns-11 returns-12)

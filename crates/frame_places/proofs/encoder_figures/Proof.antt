@@ -25,9 +25,19 @@ whole64-figure-requires-6 c κs = search needs
 
 returns : tie.Need-returns
 unfolding sixOf
-returns c = rw (c .before .before .before .before .before .whole64-figure .ensures, c .before .before .before .before .whole64-figure2 .ensures, c .before .before .before .whole64-figure3 .ensures, c .before .before .whole64-figure4 .ensures, c .before .whole64-figure5 .ensures, c .whole64-figure6 .ensures) refl
+returns c =
+    let c5 = c .before in
+    let c4 = c5 .before in
+    let c3 = c4 .before in
+    let c2 = c3 .before in
+    let c1 = c2 .before in
+    rw
+    (c1 .whole64-figure .ensures, c2 .whole64-figure2 .ensures, c3 .whole64-figure3 .ensures, c4 .whole64-figure4 .ensures,
+    c5 .whole64-figure5 .ensures, c .whole64-figure6 .ensures)
+    refl
 
 pub encoder-figures-spec : {M : Type 1} → statement M
 encoder-figures-spec =
     tie.close
-    (tie.spec whole64-figure-requires whole64-figure-requires-2 whole64-figure-requires-3 whole64-figure-requires-4 whole64-figure-requires-5 whole64-figure-requires-6 returns)
+    (tie.spec whole64-figure-requires whole64-figure-requires-2 whole64-figure-requires-3 whole64-figure-requires-4
+    whole64-figure-requires-5 whole64-figure-requires-6 returns)

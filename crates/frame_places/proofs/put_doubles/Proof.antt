@@ -31,9 +31,22 @@ double-figure-requires-5 c κs = search needs
 
 returns : tie.Need-returns
 unfolding doublePlaces
-returns c = rw (c .before .before .before .before .before .before .before .before .double-figure .ensures, c .before .before .before .before .before .before .before .double-figure2 .ensures, c .before .before .before .before .before .before .double-figure3 .ensures, c .before .before .before .before .before .red-figure .ensures, c .before .before .before .before .green-figure .ensures, c .before .before .before .blue-figure .ensures, c .before .before .double-figure4 .ensures, c .before .double-figure5 .ensures) refl
+returns c =
+    let c8 = c .before in
+    let c7 = c8 .before in
+    let c6 = c7 .before in
+    let c5 = c6 .before in
+    let c4 = c5 .before in
+    let c3 = c4 .before in
+    let c2 = c3 .before in
+    let c1 = c2 .before in
+    rw
+    (c1 .double-figure .ensures, c2 .double-figure2 .ensures, c3 .double-figure3 .ensures, c4 .red-figure .ensures,
+    c5 .green-figure .ensures, c6 .blue-figure .ensures, c7 .double-figure4 .ensures, c8 .double-figure5 .ensures)
+    refl
 
 pub put-doubles-spec : {M : Type 1} → statement M
 put-doubles-spec =
     tie.close
-    (tie.spec double-figure-requires double-figure-requires-2 double-figure-requires-3 red-figure-requires green-figure-requires blue-figure-requires double-figure-requires-4 double-figure-requires-5 returns)
+    (tie.spec double-figure-requires double-figure-requires-2 double-figure-requires-3 red-figure-requires
+    green-figure-requires blue-figure-requires double-figure-requires-4 double-figure-requires-5 returns)

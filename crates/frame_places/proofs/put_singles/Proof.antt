@@ -25,9 +25,20 @@ roll-figure-requires c κs = search needs
 
 returns : tie.Need-returns
 unfolding singlePlaces
-returns c = rw (c .before .before .before .before .before .before .single-figure .ensures, c .before .before .before .before .before .distance-figure .ensures, c .before .before .before .before .t-stop-figure .ensures, c .before .before .before .single-figure2 .ensures, c .before .before .tilt-figure .ensures, c .before .roll-figure .ensures) refl
+returns c =
+    let c6 = c .before in
+    let c5 = c6 .before in
+    let c4 = c5 .before in
+    let c3 = c4 .before in
+    let c2 = c3 .before in
+    let c1 = c2 .before in
+    rw
+    (c1 .single-figure .ensures, c2 .distance-figure .ensures, c3 .t-stop-figure .ensures, c4 .single-figure2 .ensures,
+    c5 .tilt-figure .ensures, c6 .roll-figure .ensures)
+    refl
 
 pub put-singles-spec : {M : Type 1} → statement M
 put-singles-spec =
     tie.close
-    (tie.spec single-figure-requires distance-figure-requires t-stop-figure-requires single-figure-requires-2 tilt-figure-requires roll-figure-requires returns)
+    (tie.spec single-figure-requires distance-figure-requires t-stop-figure-requires single-figure-requires-2
+    tilt-figure-requires roll-figure-requires returns)

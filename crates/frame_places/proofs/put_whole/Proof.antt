@@ -19,7 +19,12 @@ whole32-figure-requires-2 c κs = search needs
 
 returns : tie.Need-returns
 unfolding wholePlaces sixOf
-returns c = rw (c .before .before .before .before .encoder-figures .ensures, c .before .before .before .linear-figure .ensures, c .before .before .whole32-figure .ensures, c .before .whole32-figure2 .ensures) refl
+returns c =
+    let c4 = c .before in
+    let c3 = c4 .before in
+    let c2 = c3 .before in
+    let c1 = c2 .before in
+    rw (c1 .encoder-figures .ensures, c2 .linear-figure .ensures, c3 .whole32-figure .ensures, c4 .whole32-figure2 .ensures) refl
 
 pub put-whole-spec : {M : Type 1} → statement M
 put-whole-spec =

@@ -20,7 +20,12 @@ put-floats-requires : tie.Need-put-floats-requires
 put-floats-requires c κs = search needs
 
 returns : tie.Need-returns
-returns c = rw (sym (c .before .before .before .before .before .before .before .read .ensures), sym (c .before .before .before .before .before .before .camera-slots .ensures)) (refl, (c .before .before .before .before .put-kinds .ensures, (c .before .before .put-wholes .ensures, c .put-floats .ensures)))
+returns c =
+    let c4 = c .before .before in
+    let c3 = c4 .before .before in
+    let c2 = c3 .before .before in
+    let c1 = c2 .before in
+    rw (sym (c1 .read .ensures), sym (c2 .camera-slots .ensures)) (refl, (c3 .put-kinds .ensures, (c4 .put-wholes .ensures, c .put-floats .ensures)))
 
 pub brine-camera-spec : {M : Type 1} → statement M
 brine-camera-spec =

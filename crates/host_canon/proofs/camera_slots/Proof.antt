@@ -25,9 +25,19 @@ ranges-slots-requires c κs = search needs
 
 returns : tie.Need-returns
 unfolding cameraSlots
-returns c = rw (c .before .before .before .before .before .lens-slots .ensures, c .before .before .before .before .modes-slots .ensures, c .before .before .before .shutter-slots .ensures, c .before .before .balance-slots .ensures, c .before .gain-slots .ensures, c .ranges-slots .ensures) refl
+returns c =
+    let c5 = c .before in
+    let c4 = c5 .before in
+    let c3 = c4 .before in
+    let c2 = c3 .before in
+    let c1 = c2 .before in
+    rw
+    (c1 .lens-slots .ensures, c2 .modes-slots .ensures, c3 .shutter-slots .ensures, c4 .balance-slots .ensures,
+    c5 .gain-slots .ensures, c .ranges-slots .ensures)
+    refl
 
 pub camera-slots-spec : {M : Type 1} → statement M
 camera-slots-spec =
     tie.close
-    (tie.spec lens-slots-requires modes-slots-requires shutter-slots-requires balance-slots-requires gain-slots-requires ranges-slots-requires returns)
+    (tie.spec lens-slots-requires modes-slots-requires shutter-slots-requires balance-slots-requires gain-slots-requires
+    ranges-slots-requires returns)

@@ -22,7 +22,12 @@ slot-of-requires-5 c κs = search needs
 
 returns : tie.Need-returns
 unfolding gainSlots
-returns c = rw (c .before .before .before .before .slot-of .ensures, c .before .before .before .slot-of2 .ensures, c .before .before .slot-of3 .ensures, c .before .slot-of4 .ensures, c .slot-of5 .ensures) refl
+returns c =
+    let c4 = c .before in
+    let c3 = c4 .before in
+    let c2 = c3 .before in
+    let c1 = c2 .before in
+    rw (c1 .slot-of .ensures, c2 .slot-of2 .ensures, c3 .slot-of3 .ensures, c4 .slot-of4 .ensures, c .slot-of5 .ensures) refl
 
 pub gain-slots-spec : {M : Type 1} → statement M
 gain-slots-spec =

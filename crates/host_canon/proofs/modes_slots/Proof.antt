@@ -25,9 +25,16 @@ slot-of-requires-6 c κs = search needs
 
 returns : tie.Need-returns
 unfolding modesSlots
-returns c = rw (c .before .before .before .before .before .slot-of .ensures, c .before .before .before .before .slot-of2 .ensures, c .before .before .before .slot-of3 .ensures, c .before .before .slot-of4 .ensures, c .before .slot-of5 .ensures, c .slot-of6 .ensures) refl
+returns c =
+    let c5 = c .before in
+    let c4 = c5 .before in
+    let c3 = c4 .before in
+    let c2 = c3 .before in
+    let c1 = c2 .before in
+    rw (c1 .slot-of .ensures, c2 .slot-of2 .ensures, c3 .slot-of3 .ensures, c4 .slot-of4 .ensures, c5 .slot-of5 .ensures, c .slot-of6 .ensures) refl
 
 pub modes-slots-spec : {M : Type 1} → statement M
 modes-slots-spec =
     tie.close
-    (tie.spec slot-of-requires slot-of-requires-2 slot-of-requires-3 slot-of-requires-4 slot-of-requires-5 slot-of-requires-6 returns)
+    (tie.spec slot-of-requires slot-of-requires-2 slot-of-requires-3 slot-of-requires-4 slot-of-requires-5
+    slot-of-requires-6 returns)

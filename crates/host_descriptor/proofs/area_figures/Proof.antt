@@ -19,7 +19,11 @@ whole-figure-requires-4 c κs = search needs
 
 returns : tie.Need-returns
 unfolding fourOf
-returns c = rw (c .before .before .before .whole-figure .ensures, c .before .before .whole-figure2 .ensures, c .before .whole-figure3 .ensures, c .whole-figure4 .ensures) refl
+returns c =
+    let c3 = c .before in
+    let c2 = c3 .before in
+    let c1 = c2 .before in
+    rw (c1 .whole-figure .ensures, c2 .whole-figure2 .ensures, c3 .whole-figure3 .ensures, c .whole-figure4 .ensures) refl
 
 pub area-figures-spec : {M : Type 1} → statement M
 area-figures-spec =

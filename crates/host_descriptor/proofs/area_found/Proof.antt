@@ -19,7 +19,11 @@ whole-found-requires-4 c κs = search needs
 
 returns : tie.Need-returns
 unfolding fourOf
-returns c = rw (c .before .before .before .whole-found .ensures, c .before .before .whole-found2 .ensures, c .before .whole-found3 .ensures, c .whole-found4 .ensures) refl
+returns c =
+    let c3 = c .before in
+    let c2 = c3 .before in
+    let c1 = c2 .before in
+    rw (c1 .whole-found .ensures, c2 .whole-found2 .ensures, c3 .whole-found3 .ensures, c .whole-found4 .ensures) refl
 
 pub area-found-spec : {M : Type 1} → statement M
 area-found-spec =

@@ -28,7 +28,13 @@ enum-told c = search needs
 
 returns : tie.Need-returns
 unfolding statusOf after
-returns c = rw (sym (c .before .before .before .before .before .before .before .before .before .before .before .read .ensures), c .before .before .before .before .before .before .before .before .before .a .given .1) (refl, (c .before .before .before .before .before .before .put-found .ensures, (c .before .before .before .before .put-figures .ensures, (c .before .before .put-rates-found .ensures, c .put-rates .ensures))))
+returns c =
+    let c5 = c .before .before in
+    let c4 = c5 .before .before in
+    let c3 = c4 .before .before in
+    let c2 = c3 .before .before .before in
+    let c1 = c2 .before .before in
+    rw (sym (c1 .read .ensures), c2 .a .given .1) (refl, (c3 .put-found .ensures, (c4 .put-figures .ensures, (c5 .put-rates-found .ensures, c .put-rates .ensures))))
 
 returns-2 : tie.Need-returns-2
 unfolding statusOf after
@@ -37,4 +43,5 @@ returns-2 c = rw (sym (c .before .before .read .ensures), c .enum-told .given .1
 pub brine-descriptor-spec : {M : Type 1} → statement M
 brine-descriptor-spec =
     tie.close
-    (tie.spec read-requires enum-known-a put-found-requires put-figures-requires put-rates-found-requires put-rates-requires enum-told returns returns-2)
+    (tie.spec read-requires enum-known-a put-found-requires put-figures-requires put-rates-found-requires
+    put-rates-requires enum-told returns returns-2)

@@ -37,9 +37,26 @@ whole-figure-requires-8 c κs = search needs
 
 returns : tie.Need-returns
 unfolding sixteenOf fourOf
-returns c = rw (c .before .before .before .before .before .before .before .before .before .before .area-figures .ensures, c .before .before .before .before .before .before .before .before .before .area-figures2 .ensures, c .before .before .before .before .before .before .before .before .whole-figure .ensures, c .before .before .before .before .before .before .before .whole-figure2 .ensures, c .before .before .before .before .before .before .whole-figure3 .ensures, c .before .before .before .before .before .whole-figure4 .ensures, c .before .before .before .before .whole-figure5 .ensures, c .before .before .before .whole-figure6 .ensures, c .before .before .whole-figure7 .ensures, c .before .whole-figure8 .ensures) refl
+returns c =
+    let c10 = c .before in
+    let c9 = c10 .before in
+    let c8 = c9 .before in
+    let c7 = c8 .before in
+    let c6 = c7 .before in
+    let c5 = c6 .before in
+    let c4 = c5 .before in
+    let c3 = c4 .before in
+    let c2 = c3 .before in
+    let c1 = c2 .before in
+    rw
+    (c1 .area-figures .ensures, c2 .area-figures2 .ensures, c3 .whole-figure .ensures, c4 .whole-figure2 .ensures,
+    c5 .whole-figure3 .ensures, c6 .whole-figure4 .ensures, c7 .whole-figure5 .ensures, c8 .whole-figure6 .ensures,
+    c9 .whole-figure7 .ensures, c10 .whole-figure8 .ensures)
+    refl
 
 pub put-figures-spec : {M : Type 1} → statement M
 put-figures-spec =
     tie.close
-    (tie.spec area-figures-requires area-figures-requires-2 whole-figure-requires whole-figure-requires-2 whole-figure-requires-3 whole-figure-requires-4 whole-figure-requires-5 whole-figure-requires-6 whole-figure-requires-7 whole-figure-requires-8 returns)
+    (tie.spec area-figures-requires area-figures-requires-2 whole-figure-requires whole-figure-requires-2
+    whole-figure-requires-3 whole-figure-requires-4 whole-figure-requires-5 whole-figure-requires-6
+    whole-figure-requires-7 whole-figure-requires-8 returns)

@@ -45,4 +45,5 @@ returns-4 c = rw (sym (c .before .before .step .ensures), c .enum-told .given .1
 pub brine-canon-step-spec : {M : Type 1} → statement M
 brine-canon-step-spec =
     tie.close
-    (tie.spec step-requires enum-known-t put-frame-requires enum-known-t-2 enum-known-t-3 put-over-requires enum-told returns returns-2 returns-3 returns-4)
+    (tie.spec step-requires enum-known-t put-frame-requires enum-known-t-2 enum-known-t-3 put-over-requires enum-told
+    returns returns-2 returns-3 returns-4)

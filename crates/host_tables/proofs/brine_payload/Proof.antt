@@ -19,14 +19,20 @@ same-length c = search needs
 
 returns : tie.Need-returns
 unfolding payloadPlaces
-returns c = rw (sym (c .before .before .before .before .before .before .payload-into .ensures .0), c .before .before .p .given .1) (refl, (refl, c .before .before .before .before .before .before .payload-into .ensures .1))
+returns c =
+    let c2 = c .before .before in
+    let c1 = c2 .before .before .before .before in
+    rw (sym (c1 .payload-into .ensures .0), c2 .p .given .1) (refl, (refl, c1 .payload-into .ensures .1))
 
 same-length-2 : tie.Need-same-length-2
 same-length-2 c = search needs
 
 returns-2 : tie.Need-returns-2
 unfolding payloadPlaces
-returns-2 c = rw (sym (c .before .before .before .before .before .before .payload-into .ensures .0), c .before .before .p2 .given .1) (refl, (refl, c .before .before .before .before .before .before .payload-into .ensures .1))
+returns-2 c =
+    let c2 = c .before .before in
+    let c1 = c2 .before .before .before .before in
+    rw (sym (c1 .payload-into .ensures .0), c2 .p2 .given .1) (refl, (refl, c1 .payload-into .ensures .1))
 
 pub brine-payload-spec : {M : Type 1} → statement M
 brine-payload-spec =

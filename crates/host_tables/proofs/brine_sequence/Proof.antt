@@ -32,14 +32,23 @@ position-figure-requires-2 c κs = search needs
 returns : tie.Need-returns
 unfolding sequencePlaces identifierPlaces positionPlaces
 returns c =
-    let read = c .before .before .before .before .before .before .before .before .read in
-    let timecode = c .before .before .position-figure in
-    let position = c .before .position-figure2 in
+    let c7 = c .before in
+    let c6 = c7 .before in
+    let c5 = c6 .before .before in
+    let c4 = c5 .before in
+    let c3 = c4 .before in
+    let c2 = c3 .before in
+    let read = c2 .before .read in
+    let timecode = c6 .position-figure in
+    let position = c7 .position-figure2 in
     let timecode-is = toZ-ofZ w64 (timecode .result) (record { sfits = timecode .ok }) ∙ timecode .ensures in
     let position-is = toZ-ofZ w64 (position .result) (record { sfits = position .ok }) ∙ position .ensures in
-    (refl, (rw (sym (read .ensures), c .before .before .before .before .before .before .before .spot-of .ensures, c .before .before .before .before .before .before .spot-of2 .ensures, c .before .before .before .before .before .position-found .ensures, c .before .before .before .before .position-found2 .ensures) refl, rw (sym (read .ensures)) (λ i. timecode-is i ∷ position-is i ∷ [])))
+    (refl,
+    (rw (sym (read .ensures), c2 .spot-of .ensures, c3 .spot-of2 .ensures, c4 .position-found .ensures, c5 .position-found2 .ensures) refl,
+    rw (sym (read .ensures)) (λ i. timecode-is i ∷ position-is i ∷ [])))
 
 pub brine-sequence-spec : {M : Type 1} → statement M
 brine-sequence-spec =
     tie.close
-    (tie.spec read-requires spot-of-requires spot-of-requires-2 position-found-requires position-found-requires-2 position-figure-requires position-figure-requires-2 returns)
+    (tie.spec read-requires spot-of-requires spot-of-requires-2 position-found-requires position-found-requires-2
+    position-figure-requires position-figure-requires-2 returns)

@@ -26,9 +26,17 @@ put-doubles-requires : tie.Need-put-doubles-requires
 put-doubles-requires c κs = search needs
 
 returns : tie.Need-returns
-returns c = rw (sym (c .before .before .before .before .before .before .before .before .before .before .before .frame-of .ensures), sym (c .before .before .before .before .before .before .before .before .before .before .values-of .ensures), sym (c .before .before .before .before .before .before .before .before .frame-in .ensures .0)) (refl, (c .before .before .before .before .before .before .before .before .frame-in .ensures .1, (c .before .before .before .before .before .before .put-present .ensures, (c .before .before .before .before .put-whole .ensures, (c .before .before .put-singles .ensures, c .put-doubles .ensures)))))
+returns c =
+    let c6 = c .before .before in
+    let c5 = c6 .before .before in
+    let c4 = c5 .before .before in
+    let c3 = c4 .before .before in
+    let c2 = c3 .before .before in
+    let c1 = c2 .before in
+    rw (sym (c1 .frame-of .ensures), sym (c2 .values-of .ensures), sym (c3 .frame-in .ensures .0)) (refl, (c3 .frame-in .ensures .1, (c4 .put-present .ensures, (c5 .put-whole .ensures, (c6 .put-singles .ensures, c .put-doubles .ensures)))))
 
 pub brine-arri-values-spec : {M : Type 1} → statement M
 brine-arri-values-spec =
     tie.close
-    (tie.spec frame-of-requires values-of-requires frame-in-requires put-present-requires put-whole-requires put-singles-requires put-doubles-requires returns)
+    (tie.spec frame-of-requires values-of-requires frame-in-requires put-present-requires put-whole-requires
+    put-singles-requires put-doubles-requires returns)

@@ -20,7 +20,12 @@ put-doubles-requires : tie.Need-put-doubles-requires
 put-doubles-requires c κs = search needs
 
 returns : tie.Need-returns
-returns c = rw (sym (c .before .before .before .before .before .before .before .before .of-dynamic .ensures)) (refl, (c .before .before .before .before .before .before .put-present .ensures, (c .before .before .before .before .put-whole .ensures, (c .before .before .put-singles .ensures, c .put-doubles .ensures))))
+returns c =
+    let c4 = c .before .before in
+    let c3 = c4 .before .before in
+    let c2 = c3 .before .before in
+    let c1 = c2 .before .before in
+    rw (sym (c1 .of-dynamic .ensures)) (refl, (c2 .put-present .ensures, (c3 .put-whole .ensures, (c4 .put-singles .ensures, c .put-doubles .ensures))))
 
 pub brine-of-dynamic-spec : {M : Type 1} → statement M
 brine-of-dynamic-spec =
