@@ -40,7 +40,7 @@ struct upload {
     struct camera cameras[CAMERAS];
 };
 
-/* Starts an upload of at most `limit` bytes, a number below SIZE_MAX / 2; false where there is no memory. */
+/* Starts an upload of at most `limit` bytes, at most SIZE_MAX / 4; false where there is no memory. */
 bool upload_start(struct upload *u, const char *id, size_t limit);
 
 /* Keeps a piece that has arrived, and says what has become certain with it; false where the upload is given up. */

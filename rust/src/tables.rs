@@ -228,6 +228,12 @@ mod tests {
     }
 
     #[test]
+    fn lines_past_the_count_are_not_read() {
+        let line = b"\0\x09\0\0\0\x06\0\0\0\x06\0\0\0\x01\x43\x05\0\0ab";
+        assert_eq!(lines(&[&[0, 1][..], line, line].concat()).count(), 1);
+    }
+
+    #[test]
     fn the_payload_of_a_line_without_an_array_is_empty() {
         assert_eq!(lines(b"\0\x01\0\0\0\0\0\0\0\0\0\0\0\0\0\0").collect::<Vec<_>>(), [b""]);
     }
