@@ -17,6 +17,11 @@ pub fn items(set: &[u8], ber: bool) -> impl Iterator<Item = (u16, &[u8])> {
     local_items(set, ber)
 }
 
+/// The lengths of a local set's items, together.
+pub fn item_lengths(set: &[u8], ber: bool) -> u64 {
+    local_items(set, ber).map(|(_, value)| value.len() as u64).sum()
+}
+
 /// ARRI's 256 bytes of an element.
 pub fn dynamic(element: &[u8]) -> Option<&[u8; 256]> {
     dynamic_metadata(element)
