@@ -96,7 +96,13 @@ pub extern "C" fn brine_run(s: &[u8], at: usize, out: &mut [u64; 5]) -> u32
 {
     let t = Run { at }.step(s);
     match t {
-        Found::Item(k, next) => *out = [1, k.at as u64, k.value as u64, k.len as u64, next.at as u64],
+        Found::Item(k, next) => *out = [
+            1,
+            k.at as u64,
+            k.value as u64,
+            k.len as u64,
+            next.at as u64,
+        ],
         Found::End => *out = [0, 0, 0, 0, at as u64],
     }
     0
@@ -110,7 +116,13 @@ pub extern "C" fn brine_item(s: &[u8], tag: usize, ber: bool, at: usize, out: &m
 {
     let t = Local { at }.step(s, Coding { tag, ber });
     match t {
-        Held::Item(k, next) => *out = [1, k.at as u64, k.value as u64, k.len as u64, next.at as u64],
+        Held::Item(k, next) => *out = [
+            1,
+            k.at as u64,
+            k.value as u64,
+            k.len as u64,
+            next.at as u64,
+        ],
         Held::End => *out = [0, 0, 0, 0, at as u64],
     }
     0

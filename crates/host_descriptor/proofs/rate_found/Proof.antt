@@ -1,0 +1,22 @@
+-- `host_descriptor::rate_found` answers each case of the field.
+use Rattle.host_descriptor.specs.Places.{rateFound}
+use borrow.Author.Needs.{needs}
+use Rattle.host_descriptor.proofs.rate_found.Statement.{statement}
+use Rattle.host_descriptor.proofs.rate_found.Tie as tie
+
+enum-told : tie.Need-enum-told
+enum-told c = search needs
+
+enum-told-2 : tie.Need-enum-told-2
+enum-told-2 c = search needs
+
+returns : tie.Need-returns
+unfolding rateFound
+returns c = rw (c .enum-told .given .1)
+
+returns-2 : tie.Need-returns-2
+unfolding rateFound
+returns-2 c = rw (c .enum-told2 .given .1)
+
+pub rate-found-spec : {M : Type 1} → statement M
+rate-found-spec = tie.close (tie.spec enum-told enum-told-2 returns returns-2)

@@ -1,0 +1,16 @@
+-- `host_frames::mark` answers each case of the mark.
+use mathlib.Core.Path.{refl}
+use Rattle.host_frames.specs.Places.{mark}
+use Rattle.host_frames.proofs.mark.Statement.{statement}
+use Rattle.host_frames.proofs.mark.Tie as tie
+
+returns : tie.Need-returns
+unfolding mark
+returns c = rw (c .if1 .taken) refl
+
+returns-2 : tie.Need-returns-2
+unfolding mark
+returns-2 c = rw (c .if1 .left) refl
+
+pub mark-spec : {M : Type 1} → statement M
+mark-spec = tie.close (tie.spec returns returns-2)

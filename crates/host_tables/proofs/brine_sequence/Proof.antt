@@ -1,0 +1,36 @@
+-- `host_tables::brine_sequence` stores what each of its calls says.
+use mathlib.Core.Path.{refl, sym}
+use Rattle.host_tables.specs.Sequence.{identifierPlaces, sequencePlaces, positionPlaces}
+use borrow.Author.Needs.{needs}
+use Rattle.host_tables.proofs.brine_sequence.Statement.{statement}
+use Rattle.host_tables.proofs.brine_sequence.Tie as tie
+
+read-requires : tie.Need-read-requires
+read-requires c κs = search needs
+
+spot-of-requires : tie.Need-spot-of-requires
+spot-of-requires c κs = search needs
+
+spot-of-requires-2 : tie.Need-spot-of-requires-2
+spot-of-requires-2 c κs = search needs
+
+position-found-requires : tie.Need-position-found-requires
+position-found-requires c κs = search needs
+
+position-found-requires-2 : tie.Need-position-found-requires-2
+position-found-requires-2 c κs = search needs
+
+position-figure-requires : tie.Need-position-figure-requires
+position-figure-requires c κs = search needs
+
+position-figure-requires-2 : tie.Need-position-figure-requires-2
+position-figure-requires-2 c κs = search needs
+
+returns : tie.Need-returns
+unfolding sequencePlaces identifierPlaces positionPlaces
+returns c = (refl, (rw (sym (c .before .before .before .before .before .before .before .before .read .ensures), c .before .before .before .before .before .before .before .spot-of .ensures, c .before .before .before .before .before .before .spot-of2 .ensures, c .before .before .before .before .before .position-found .ensures, c .before .before .before .before .position-found2 .ensures) refl, rw (sym (c .before .before .before .before .before .before .before .before .read .ensures), c .before .before .position-figure .ensures, c .before .position-figure2 .ensures) refl))
+
+pub brine-sequence-spec : {M : Type 1} → statement M
+brine-sequence-spec =
+    tie.close
+    (tie.spec read-requires spot-of-requires spot-of-requires-2 position-found-requires position-found-requires-2 position-figure-requires position-figure-requires-2 returns)
