@@ -51,16 +51,16 @@ fn scan(s: &[u8], end: usize, from: usize) -> usize
     end
 }
 
-// Whether the first and the last byte of a key's start stand at one of 64 places. No branch on a byte, so that the
-// compiler compares many at once and no input slows it.
-fn ends_among(s: &[u8], at: usize) -> bool
+// Whether the second and the last byte of a key's start stand at one of 64 places: 06, the first, is the most common of
+// the four in files. No branch on a byte, so that the compiler compares many at once and no input slows it.
+fn pair_among(s: &[u8], at: usize) -> bool
     requires { ⌜ at + 67 ≤ length (now s) ⌝ }
     ensures { λ r. ⌜ (r ≡ false → Passes (now (s .entry)) at (at + 64)) ⌝ }
 {
     let mut hit = false;
     let mut k = 0;
     while k < 64 {
-        hit = hit | ((s[at + k] == 0x06) & (s[at + k + 3] == 0x34));
+        hit = hit | ((s[at + k + 1] == 0x0e) & (s[at + k + 3] == 0x34));
         k += 1;
     }
     hit
@@ -85,7 +85,7 @@ fn pass(s: &[u8], at: usize) -> usize
     requires { ⌜ at + 67 ≤ length (now s) ⌝ }
     ensures { λ r. ⌜ (r ≤ at + 64) × Passes (now (s .entry)) at r ⌝ }
 {
-    if !ends_among(s, at) {
+    if !pair_among(s, at) {
         return at + 64;
     }
     let mut k = 0;
