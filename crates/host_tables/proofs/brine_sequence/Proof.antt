@@ -1,5 +1,8 @@
 -- `host_tables::brine_sequence` stores what each of its calls says.
-use mathlib.Core.Path.{refl, sym}
+use mathlib.Core.Path.{refl, sym, _∙_}
+use mathlib.Core.List.{[], _∷_}
+use mir.Syntax.{w64}
+use mir.ValLaws.{toZ-ofZ}
 use Rattle.host_tables.specs.Sequence.{identifierPlaces, sequencePlaces, positionPlaces}
 use borrow.Author.Needs.{needs}
 use Rattle.host_tables.proofs.brine_sequence.Statement.{statement}
@@ -28,7 +31,13 @@ position-figure-requires-2 c κs = search needs
 
 returns : tie.Need-returns
 unfolding sequencePlaces identifierPlaces positionPlaces
-returns c = (refl, (rw (sym (c .before .before .before .before .before .before .before .before .read .ensures), c .before .before .before .before .before .before .before .spot-of .ensures, c .before .before .before .before .before .before .spot-of2 .ensures, c .before .before .before .before .before .position-found .ensures, c .before .before .before .before .position-found2 .ensures) refl, rw (sym (c .before .before .before .before .before .before .before .before .read .ensures), c .before .before .position-figure .ensures, c .before .position-figure2 .ensures) refl))
+returns c =
+    let read = c .before .before .before .before .before .before .before .before .read in
+    let timecode = c .before .before .position-figure in
+    let position = c .before .position-figure2 in
+    let timecode-is = toZ-ofZ w64 (timecode .result) (record { sfits = timecode .ok }) ∙ timecode .ensures in
+    let position-is = toZ-ofZ w64 (position .result) (record { sfits = position .ok }) ∙ position .ensures in
+    (refl, (rw (sym (read .ensures), c .before .before .before .before .before .before .before .spot-of .ensures, c .before .before .before .before .before .before .spot-of2 .ensures, c .before .before .before .before .before .position-found .ensures, c .before .before .before .before .position-found2 .ensures) refl, rw (sym (read .ensures)) (λ i. timecode-is i ∷ position-is i ∷ [])))
 
 pub brine-sequence-spec : {M : Type 1} → statement M
 brine-sequence-spec =

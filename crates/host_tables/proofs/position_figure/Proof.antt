@@ -1,4 +1,6 @@
 -- `host_tables::position_figure` answers each case of the position.
+use mir.Syntax.{w64}
+use mir.ValLaws.{toZ-ofZ}
 use Rattle.host_tables.specs.Sequence.{positionFigure}
 use borrow.Author.Needs.{needs}
 use Rattle.host_tables.proofs.position_figure.Statement.{statement}
@@ -12,7 +14,7 @@ enum-told c = search needs
 
 returns : tie.Need-returns
 unfolding positionFigure
-returns c = rw (c .before .p .given .1)
+returns c = rw (c .before .p .given .1) (toZ-ofZ w64 _ (record { sfits = c .known-told .given .0 .1 }))
 
 returns-2 : tie.Need-returns-2
 unfolding positionFigure

@@ -1,0 +1,27 @@
+-- `frame_places::put_whole` stores what each of its calls says.
+use mathlib.Core.Path.{refl}
+use Rattle.frame_places.specs.Places.{wholePlaces, sixOf}
+use borrow.Author.Needs.{needs}
+use Rattle.frame_places.proofs.put_whole.Statement.{statement}
+use Rattle.frame_places.proofs.put_whole.Tie as tie
+
+encoder-figures-requires : tie.Need-encoder-figures-requires
+encoder-figures-requires c κs = search needs
+
+linear-figure-requires : tie.Need-linear-figure-requires
+linear-figure-requires c κs = search needs
+
+whole32-figure-requires : tie.Need-whole32-figure-requires
+whole32-figure-requires c κs = search needs
+
+whole32-figure-requires-2 : tie.Need-whole32-figure-requires-2
+whole32-figure-requires-2 c κs = search needs
+
+returns : tie.Need-returns
+unfolding wholePlaces sixOf
+returns c = rw (c .before .before .before .before .encoder-figures .ensures, c .before .before .before .linear-figure .ensures, c .before .before .whole32-figure .ensures, c .before .whole32-figure2 .ensures) refl
+
+pub put-whole-spec : {M : Type 1} → statement M
+put-whole-spec =
+    tie.close
+    (tie.spec encoder-figures-requires linear-figure-requires whole32-figure-requires whole32-figure-requires-2 returns)
