@@ -49,10 +49,20 @@ pub fn random(count: usize) -> Vec<u8> {
     without_key(Random::new().bytes(count))
 }
 
-/// Bytes without a key of which half are 06.
-pub fn half_06(count: usize) -> Vec<u8> {
+/// Bytes without a key of which half are one byte.
+pub fn half(byte: u8, count: usize) -> Vec<u8> {
     let mut random = Random::new();
-    without_key(random.bytes(count).into_iter().map(|byte| if random.next() >> 40 & 1 == 0 { 6 } else { byte }).collect())
+    without_key(random.bytes(count).into_iter().map(|other| if random.next() >> 40 & 1 == 0 { byte } else { other }).collect())
+}
+
+/// Zeros, with `0e 00 34` in each 64 bytes by so many chances in 16: the port looks twice at a block that has them.
+pub fn pairs(chances: u64, count: usize) -> Vec<u8> {
+    let mut random = Random::new();
+    let mut bytes = vec![0; count];
+    for block in bytes.chunks_exact_mut(64).filter(|_| random.next() >> 40 & 15 < chances) {
+        block[..3].copy_from_slice(&[0x0e, 0x00, 0x34]);
+    }
+    bytes
 }
 
 /// A pattern again and again.
@@ -65,6 +75,15 @@ pub fn keys_every(apart: usize, count: usize) -> Vec<u8> {
     let mut bytes = vec![0; count];
     for place in (0..count - 3).step_by(apart) {
         bytes[place..place + 4].copy_from_slice(&KEY);
+    }
+    bytes
+}
+
+/// Keys so far apart, each with a byte that is no length, and zeros after it.
+pub fn no_lengths_every(apart: usize, count: usize) -> Vec<u8> {
+    let mut bytes = keys_every(apart, count);
+    for place in (16..count).step_by(apart) {
+        bytes[place] = 0x89;
     }
     bytes
 }

@@ -7,6 +7,12 @@ unsafe extern "C" {
     fn brine_run(s: *const u8, s_len: usize, at: usize, out: *mut u64) -> u32;
     fn brine_item(s: *const u8, s_len: usize, tag: usize, ber: bool, at: usize, out: *mut u64) -> u32;
     fn brine_same_label(a: *const u8, a_len: usize, b: *const u8, b_len: usize) -> bool;
+    fn brine_header(s: *const u8, s_len: usize, out: *mut u64) -> u32;
+    fn brine_primer(s: *const u8, s_len: usize, tag: u64, out: *mut u64) -> u32;
+    fn brine_arri_block(element: *const u8, element_len: usize, out: *mut u64) -> u32;
+    fn brine_payload(element: *const u8, element_len: usize, payload: *mut u8, payload_len: usize, out: *mut u64) -> u32;
+    fn brine_sequence(s: *const u8, s_len: usize, out: *mut u64, positions: *mut i64) -> u32;
+    fn brine_descriptor(s: *const u8, s_len: usize, present: *mut u64, whole: *mut u64, rates_present: *mut u64, rates: *mut f64) -> u32;
 }
 
 /// The next key from a place on.
@@ -45,4 +51,47 @@ pub fn item(s: &[u8], tag: usize, ber: bool, at: usize) -> [u64; 5] {
 /// Whether two labels are the same.
 pub fn same_label(a: &[u8], b: &[u8]) -> bool {
     unsafe { brine_same_label(a.as_ptr(), a.len(), b.as_ptr(), b.len()) }
+}
+
+/// What the search for the header part writes out.
+pub fn header(s: &[u8]) -> [u64; 3] {
+    let mut out = [0; 3];
+    unsafe { brine_header(s.as_ptr(), s.len(), out.as_mut_ptr()) };
+    out
+}
+
+/// What the look-up of a tag in a primer writes out.
+pub fn primer(s: &[u8], tag: u64) -> [u64; 2] {
+    let mut out = [0; 2];
+    unsafe { brine_primer(s.as_ptr(), s.len(), tag, out.as_mut_ptr()) };
+    out
+}
+
+/// What the search for ARRI's 256 bytes writes out.
+pub fn arri_block(element: &[u8]) -> [u64; 2] {
+    let mut out = [0; 2];
+    unsafe { brine_arri_block(element.as_ptr(), element.len(), out.as_mut_ptr()) };
+    out
+}
+
+/// The length of an element's payload, which is put into lent room.
+pub fn payload(element: &[u8], room: &mut [u8]) -> u64 {
+    let mut out = [0];
+    unsafe { brine_payload(element.as_ptr(), element.len(), room.as_mut_ptr(), room.len(), out.as_mut_ptr()) };
+    out[0]
+}
+
+/// What a sequence info writes out, with its positions.
+pub fn sequence(s: &[u8]) -> ([u64; 8], [i64; 2]) {
+    let (mut out, mut positions) = ([0; 8], [0; 2]);
+    unsafe { brine_sequence(s.as_ptr(), s.len(), out.as_mut_ptr(), positions.as_mut_ptr()) };
+    (out, positions)
+}
+
+/// How many items of a descriptor are there.
+pub fn descriptor_items(s: &[u8]) -> u64 {
+    let (mut present, mut whole, mut rates_present, mut rates) = ([0; 16], [0; 16], [0; 2], [0.0; 2]);
+    let [p, w, r] = [present.as_mut_ptr(), whole.as_mut_ptr(), rates_present.as_mut_ptr()];
+    unsafe { brine_descriptor(s.as_ptr(), s.len(), p, w, r, rates.as_mut_ptr()) };
+    present.iter().chain(&rates_present).sum()
 }

@@ -4,7 +4,7 @@ use memchr::memmem;
 
 use crate::inputs::*;
 use crate::measure::Pass;
-use crate::{port, published};
+use crate::{port, published, tables};
 
 /// A row: the same work by the port and by the Rust, and by others for interest.
 pub struct Row {
@@ -23,11 +23,12 @@ pub fn rows() -> Vec<Row> {
     searches(&mut rows);
     near_keys(&mut rows);
     walks(&mut rows);
+    tables::rows(&mut rows);
     rows
 }
 
 /// Bytes that live as long as the program, for passes to share.
-fn kept(bytes: Vec<u8>) -> &'static [u8] {
+pub fn kept(bytes: Vec<u8>) -> &'static [u8] {
     bytes.leak()
 }
 
@@ -36,10 +37,14 @@ fn searches(rows: &mut Vec<Row>) {
     let inputs = [
         ("random bytes", random(MIB), 0.13),
         ("zeros", vec![0; MIB], 0.13),
-        ("half of the bytes 06", half_06(MIB), 0.13),
+        ("half of the bytes 06", half(0x06, MIB), 0.13),
         ("`06 0e 2b` repeated", repeated(&[0x06, 0x0e, 0x2b], MIB), 0.13),
+        ("hostile: half of the bytes 0e", half(0x0e, MIB), 0.4),
         ("hostile: `06 34` repeated", repeated(&[0x06, 0x34], MIB), 0.4),
         ("hostile: `06 0e 2c 34` repeated", repeated(&[0x06, 0x0e, 0x2c, 0x34], MIB), 0.4),
+        ("hostile: `0e 00 34` in each 64 bytes", pairs(16, MIB), 0.4),
+        ("hostile: `0e 00 34` in half of the 64 bytes, by chance", pairs(8, MIB), 0.4),
+        ("hostile: `0e 00 34` in 7 of 8 of the 64 bytes, by chance", pairs(14, MIB), 0.4),
     ];
     for (name, bytes, target) in inputs {
         let s = kept(bytes);
@@ -120,6 +125,8 @@ fn walks(rows: &mut Vec<Row>) {
         ("1 to 64 bytes of junk between small records", records(MIB, 1, (0, 20), (1, 64)), None),
         ("1,000 bytes of junk between small records", records(MIB, 1, (0, 20), (1000, 1000)), Some(0.2)),
         ("hostile: adjoining keys with no length", no_lengths(MIB), Some(0.8)),
+        ("hostile: keys with no length, 50 bytes apart", no_lengths_every(50, MIB), Some(1.0)),
+        ("hostile: keys with no length, 113 bytes apart", no_lengths_every(113, MIB), Some(1.0)),
     ];
     for (name, bytes, target) in inputs {
         let s = kept(bytes);
