@@ -1,0 +1,102 @@
+// The places that a host's arrays have for a value of Canon's packs: include/brinethimble.h, "Canon's values". Every value has
+// a code; its number or figure is in the array of its type, and the rest is 0.
+ghost use mathlib.Core.Path.{_≡_};
+ghost use Rattle.canon_places.specs.Slots.{twos, mark, kindOf, wholeOf, floatOf, slotOf};
+use canon_values::Value;
+
+// A signed number in two's complement: one below 0 is 2 ^ 64 more.
+fn twos(n: i16) -> u64
+    ensures { λ r. ⌜ r ≡ twos n ⌝ }
+{
+    if n < 0 {
+        let below = -1 - n;
+        let up = below as u64;
+        return u64::MAX - up;
+    }
+    n as u64
+}
+
+// 1 for a flag that is set.
+fn mark(b: bool) -> u64
+    ensures { λ r. ⌜ r ≡ mark b ⌝ }
+{
+    if b { 1 } else { 0 }
+}
+
+// A value's code.
+fn kind_of(v: Value) -> u64
+    ensures { λ r. ⌜ r ≡ kindOf v ⌝ }
+{
+    match v {
+        Value::Nothing => 0,
+        Value::Code(_) => 1,
+        Value::Whole(_) => 2,
+        Value::Signed(_) => 3,
+        Value::Float(_) => 4,
+        Value::Flag(_) => 5,
+        Value::Off => 6,
+        Value::Close => 7,
+        Value::Others => 8,
+        Value::Auto => 9,
+        Value::Manual => 10,
+        Value::Reserved => 11,
+    }
+}
+
+// A value's number, 0 where it is none.
+fn whole_of(v: Value) -> u64
+    ensures { λ r. ⌜ r ≡ wholeOf v ⌝ }
+{
+    match v {
+        Value::Nothing => 0,
+        Value::Code(n) => n as u64,
+        Value::Whole(n) => n as u64,
+        Value::Signed(n) => twos(n),
+        Value::Float(_) => 0,
+        Value::Flag(b) => mark(b),
+        Value::Off => 0,
+        Value::Close => 0,
+        Value::Others => 0,
+        Value::Auto => 0,
+        Value::Manual => 0,
+        Value::Reserved => 0,
+    }
+}
+
+// A value's figure, 0 where it is none.
+fn float_of(v: Value) -> f64
+    ensures { λ r. ⌜ r ≡ floatOf v ⌝ }
+{
+    match v {
+        Value::Nothing => 0.0,
+        Value::Code(_) => 0.0,
+        Value::Whole(_) => 0.0,
+        Value::Signed(_) => 0.0,
+        Value::Float(x) => x,
+        Value::Flag(_) => 0.0,
+        Value::Off => 0.0,
+        Value::Close => 0.0,
+        Value::Others => 0.0,
+        Value::Auto => 0.0,
+        Value::Manual => 0.0,
+        Value::Reserved => 0.0,
+    }
+}
+
+// What the three arrays have of a field.
+pub struct Slot {
+    pub kind: u64,
+    pub whole: u64,
+    pub float: f64,
+}
+
+// What the three arrays have of a value.
+pub fn slot_of(v: Value) -> Slot
+    ensures { λ r. ⌜ r ≡ slotOf v ⌝ }
+{
+    Slot {
+        kind: kind_of(v),
+        whole: whole_of(v),
+        float: float_of(v),
+    }
+}

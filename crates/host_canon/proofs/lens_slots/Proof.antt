@@ -1,0 +1,39 @@
+-- `host_canon::lens_slots` answers what its calls say.
+use mathlib.Core.Path.{refl}
+use Rattle.host_canon.specs.Places.{lensSlots}
+use borrow.Author.Needs.{needs}
+use Rattle.host_canon.proofs.lens_slots.Statement.{statement}
+use Rattle.host_canon.proofs.lens_slots.Tie as tie
+
+slot-of-requires : tie.Need-slot-of-requires
+slot-of-requires c κs = search needs
+
+slot-of-requires-2 : tie.Need-slot-of-requires-2
+slot-of-requires-2 c κs = search needs
+
+slot-of-requires-3 : tie.Need-slot-of-requires-3
+slot-of-requires-3 c κs = search needs
+
+slot-of-requires-4 : tie.Need-slot-of-requires-4
+slot-of-requires-4 c κs = search needs
+
+slot-of-requires-5 : tie.Need-slot-of-requires-5
+slot-of-requires-5 c κs = search needs
+
+slot-of-requires-6 : tie.Need-slot-of-requires-6
+slot-of-requires-6 c κs = search needs
+
+slot-of-requires-7 : tie.Need-slot-of-requires-7
+slot-of-requires-7 c κs = search needs
+
+slot-of-requires-8 : tie.Need-slot-of-requires-8
+slot-of-requires-8 c κs = search needs
+
+returns : tie.Need-returns
+unfolding lensSlots
+returns c = rw (c .before .before .before .before .before .before .before .slot-of .ensures, c .before .before .before .before .before .before .slot-of2 .ensures, c .before .before .before .before .before .slot-of3 .ensures, c .before .before .before .before .slot-of4 .ensures, c .before .before .before .slot-of5 .ensures, c .before .before .slot-of6 .ensures, c .before .slot-of7 .ensures, c .slot-of8 .ensures) refl
+
+pub lens-slots-spec : {M : Type 1} → statement M
+lens-slots-spec =
+    tie.close
+    (tie.spec slot-of-requires slot-of-requires-2 slot-of-requires-3 slot-of-requires-4 slot-of-requires-5 slot-of-requires-6 slot-of-requires-7 slot-of-requires-8 returns)
