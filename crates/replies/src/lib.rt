@@ -1,4 +1,4 @@
-// The answer to a line, by its word: docs/CASES.md.
+// The answer to a line, by its word: docs/CASES.md. A function for each kind of word.
 use case_lines::Case;
 use case_lines::Line;
 
@@ -8,6 +8,16 @@ fn items(out: &mut [u8], at: usize, s: &[u8], coding: usize) -> usize {
         return text::put_byte(out, at, b'?');
     }
     answer_tables::items_of(out, at, s, coding == 1)
+}
+
+// Puts the answer to a case of the tables', or of a camera's.
+fn tables(word: u8, a: usize, s: &[u8], out: &mut [u8], at: usize) -> usize {
+    match word {
+        case_lines::HEADER => answer_tables::header_of(out, at, s),
+        case_lines::PRIMER => answer_tables::primer_of(out, at, s),
+        case_lines::ITEMS => items(out, at, s, a),
+        _ => camera_replies::reply(word, a, s, out, at),
+    }
 }
 
 // Puts the answer to a case over its bytes.
@@ -22,21 +32,7 @@ fn reply(c: Case, s: &[u8], out: &mut [u8], at: usize) -> usize {
         case_lines::STEP => answer_walk::step(out, at, s, a, b),
         case_lines::ARRIVE => answer_walk::arrive(out, at, s, a),
         case_lines::TALLY => answer_tally::tally(out, at, s),
-        case_lines::HEADER => answer_tables::header_of(out, at, s),
-        case_lines::PRIMER => answer_tables::primer_of(out, at, s),
-        case_lines::ITEMS => items(out, at, s, a),
-        case_lines::DYNAMIC => answer_arri::dynamic(out, at, s),
-        case_lines::OF_DYNAMIC => answer_arri::of_dynamic(out, at, s),
-        case_lines::ALEXA => answer_arri::alexa(out, at, s),
-        case_lines::ARRI => answer_arri::arri_frames(out, at, s, a),
-        case_lines::ANC => answer_sony::anc(out, at, s),
-        case_lines::SET => answer_sony::set(out, at, s),
-        case_lines::SONY => answer_frames::sony_frames(out, at, s, a),
-        case_lines::PACKS => answer_canon::packs(out, at, s),
-        case_lines::PACKAGE => answer_canon::package(out, at, s),
-        case_lines::SEQUENCE => answer_canon::sequence(out, at, s),
-        case_lines::CANON => answer_canon_walk::canon_frames(out, at, s, a),
-        _ => text::put_byte(out, at, b'?'),
+        _ => tables(word, a, s, out, at),
     }
 }
 

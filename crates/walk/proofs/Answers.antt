@@ -94,6 +94,15 @@ module _ (limit : ℕ) (a : List ℕ) (p : ℕ) where
     unfolding arrivingStep arrivingBy arrivingAfter
     arriving-lost q w = simp (le-ltb _ _ h, w)
 
+    -- within the limit nothing is refused
+    pub not-past-limit : (n q : ℕ) → arrivingStep limit a p ≡ refused n q → ⊥
+    not-past-limit n q x = go (walked limit a (length a) p) refl
+      where
+        go : (w : Walked) → walked limit a (length a) p ≡ w → ⊥
+        go (Found k) w = let y = arriving-found k w in let z : _≡_ {A = ℕ} 0 1 = cc in omega arith
+        go (Stopped r) w = let y = arriving-stopped r w in let z : _≡_ {A = ℕ} 0 1 = cc in omega arith
+        go (Lost r) w = let y = arriving-lost r w in let z : _≡_ {A = ℕ} 0 1 = cc in omega arith
+
 -- two answers of a step that say the same are the same
 pub step-once : (s : List ℕ) (p : ℕ) (a b : Step) → stepTold s p a ≡ stepTold s p b → a ≡ b
 step-once s p (step.Record k m) (step.Record l n) e =

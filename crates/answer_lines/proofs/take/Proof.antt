@@ -1,10 +1,10 @@
--- `answers::take` is safe and ends: each turn takes one byte of the chunk.
+-- `answer_lines::take` is safe and ends: each turn takes one byte of the chunk.
 use Prim.Native.Nat.{_-_}
 use mathlib.Core.Path.{_≡_}
 use lib.ListN.{length}
 use borrow.Author.Needs.{needs}
-use Rattle.answers.proofs.take.Statement.{statement}
-use Rattle.answers.proofs.take.Tie as tie
+use Rattle.answer_lines.proofs.take.Statement.{statement}
+use Rattle.answer_lines.proofs.take.Tie as tie
 
 abbrev Inv-loop : tie.InvT-loop
 Inv-loop chunk line₀ out₀ len₀ at₀ i₀ line out len at i = (length line ≡ length line₀) × (length out ≡ length out₀)

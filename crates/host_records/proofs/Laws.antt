@@ -1,0 +1,115 @@
+-- A batch, step by step: what was put, and what the steps that are left give, is the whole. Over any step, so that the
+-- finished and the arriving walk's batches are one proof. Assumes nothing.
+use Prim.Native.Nat.{ℕ, zero, suc, _+_, _*_, _-_, _/_, _≤_, _<_}
+use mathlib.Core.Path.{_≡_, refl, sym, ap, _∙_}
+use mathlib.Core.List.{List, [], _∷_}
+use native.Mathlib.Omega.{arith}
+use lib.ListN.{length, set, length-set}
+use Rattle.steps.specs.Told.{Told, found, nothing, refused, number}
+use Rattle.steps.specs.Listed.{before, atMost, onward, endAtMost}
+use Rattle.klv.specs.declared.Klv.{Klv}
+use Rattle.klv.specs.Item.{Item}
+use Rattle.host_records.specs.declared.Batch.{Batch}
+use Rattle.host_records.specs.Batch.{recordPut, recordsPut, batch, batchOf, batchInto, batchSaid, batchPlaces}
+
+-- a record's three places leave the room as long as it was
+pub length-put : (k : Klv) (at : ℕ) (lent : List ℕ) → length (recordPut k at lent) ≡ length lent
+length-put k at lent =
+    let a = set lent at (k .at) in
+    let b = set a (at + 1) (k .value) in
+    length-set b (at + 2) (k .len) ∙ length-set a (at + 1) (k .value) ∙ length-set lent at (k .at)
+
+module _ (step : ℕ → Told Item) where
+  -- one step more
+  module _ (n p q : ℕ) where
+    list-found : (i : Item) → found i q ≡ step p → atMost step (suc n) p ≡ i ∷ atMost step n q
+    unfolding atMost before
+    list-found i f = rw (sym f) refl
+
+    list-nothing : nothing q ≡ step p → atMost step (suc n) p ≡ []
+    unfolding atMost before
+    list-nothing f = rw (sym f) refl
+
+    end-found : (i : Item) → found i q ≡ step p → endAtMost step (suc n) p ≡ endAtMost step n q
+    unfolding endAtMost onward
+    end-found i f = rw (sym f) refl
+
+    end-nothing : nothing q ≡ step p → endAtMost step (suc n) p ≡ q
+    unfolding endAtMost onward
+    end-nothing f = rw (sym f) refl
+
+  -- `count` records were put, there is room for `left` more, and the next step starts at p
+  pub record Going (lent₀ : List ℕ) (p₀ : ℕ) (lent : List ℕ) (left count p : ℕ) : Type 0 where
+    pub put : recordsPut (atMost step left p) (3 * count) lent ≡ recordsPut (batch step lent₀ p₀) 0 lent₀
+    pub counted : count + length (atMost step left p) ≡ length (batch step lent₀ p₀)
+    pub ends : endAtMost step left p ≡ endAtMost step (length lent₀ / 3) p₀
+    pub same : length lent ≡ length lent₀
+    pub room : count + left ≡ length lent₀ / 3
+
+  -- the answer, and the room after it
+  abbrev pub Put : List ℕ → ℕ → List ℕ → Batch → Type 0
+  Put lent₀ p₀ lent b = (b ≡ batchOf step (length lent₀ / 3) p₀) × (lent ≡ recordsPut (batch step lent₀ p₀) 0 lent₀)
+
+  module _ (lent₀ : List ℕ) (p₀ : ℕ) where
+    -- an answer by its count and its next cursor
+    batch-is : {count next : ℕ} → count ≡ length (batch step lent₀ p₀) → next ≡ endAtMost step (length lent₀ / 3) p₀ → _≡_ {A = Batch} (record { count = count; next = next }) (batchOf step (length lent₀ / 3) p₀)
+    unfolding batch
+    batch-is c n = λ i. record { count = c i; next = n i }
+
+    pub going-start : Going lent₀ p₀ lent₀ (length lent₀ / 3) 0 p₀
+    unfolding batch
+    going-start = record { put = refl; counted = omega arith; ends = refl; same = refl; room = omega arith }
+
+    module _ (lent : List ℕ) (count p : ℕ) where
+      -- one more record has room
+      pub going-fits : (left : ℕ) → Going lent₀ p₀ lent left count p → 0 < left → 3 * count + 2 < length lent
+      going-fits left g h = omega (arith, g .same, g .room)
+
+      pub going-next : (i : Item) (q left : ℕ) → Going lent₀ p₀ lent left count p → 0 < left → found i q ≡ step p → Going lent₀ p₀ (recordPut (i .klv) (3 * count) lent) (left - 1) (count + 1) q
+      unfolding recordsPut
+      going-next i q zero g h f = absurd (omega arith)
+      going-next i q (suc n) g h f =
+          let less : suc n - 1 ≡ n = omega arith in
+          let three : 3 * (count + 1) ≡ 3 * count + 3 = omega arith in
+          record {
+            put = rw (less, three) (rw (list-found n p q i f) at (g .put));
+            counted = rw less (omega (arith, rw (list-found n p q i f) at (g .counted)));
+            ends = rw less (sym (end-found n p q i f) ∙ g .ends);
+            same = length-put (i .klv) (3 * count) lent ∙ g .same;
+            room = omega (arith, g .room);
+          }
+
+      -- nothing comes
+      pub going-nothing : (q left : ℕ) → Going lent₀ p₀ lent left count p → 0 < left → nothing q ≡ step p → Put lent₀ p₀ lent (record { count = count; next = q })
+      unfolding recordsPut
+      going-nothing q zero g h f = absurd (omega arith)
+      going-nothing q (suc n) g h f =
+          let all : count ≡ length (batch step lent₀ p₀) = omega (arith, rw (list-nothing n p q f) at (g .counted)) in
+          let ends : q ≡ endAtMost step (length lent₀ / 3) p₀ = sym (end-nothing n p q f) ∙ g .ends in
+          (batch-is all ends, rw (list-nothing n p q f) at (g .put))
+
+      -- there is no room for more
+      pub going-full : (left : ℕ) → Going lent₀ p₀ lent left count p → left ≡ 0 → Put lent₀ p₀ lent (record { count = count; next = p })
+      unfolding recordsPut atMost endAtMost
+      going-full zero g h =
+          (batch-is (omega (arith, g .counted)) (g .ends), g .put)
+      going-full (suc n) g h = absurd (omega arith)
+
+  -- what the exported calls answer, by what the first step says
+  module _ (lent out : List ℕ) (p : ℕ) where
+    -- the status, the lent room and the places after a call
+    abbrev pub Answered : ℕ → List ℕ → List ℕ → Type 0
+    Answered status lent′ out′ = (status ≡ number (step p)) × ((lent′ ≡ batchInto step p lent (step p)) × (out′ ≡ batchPlaces step (length lent / 3) p out (step p)))
+
+    pub answered-refused : (n q : ℕ) → step p ≡ refused n q → Answered n lent out
+    unfolding number batchInto batchPlaces
+    answered-refused n q e = rw e (refl, (refl, refl))
+
+    pub answered-put : (lent′ : List ℕ) (b : Batch) → ((n q : ℕ) → step p ≡ refused n q → ⊥) → Put lent p lent′ b → Answered 0 lent′ (batchSaid b)
+    unfolding number batchInto batchPlaces
+    answered-put lent′ b never u = go (step p) refl
+      where
+        go : (t : Told Item) → step p ≡ t → Answered 0 lent′ (batchSaid b)
+        go (found i q) e = rw e (refl, (u .1, ap batchSaid (u .0)))
+        go (nothing q) e = rw e (refl, (u .1, ap batchSaid (u .0)))
+        go (refused n q) e = absurd (never n q e)
