@@ -7,6 +7,7 @@ mod port;
 mod published;
 mod rows;
 mod tables;
+mod values;
 mod worst;
 
 use measure::{bench_pass, least};
@@ -55,7 +56,9 @@ fn once() {
 /// All tables.
 fn all(counts: &[f64]) {
     let rows = rows();
-    part_by_part(rows.iter().enumerate().map(|(i, row)| (row, counts.get(2 * i).zip(counts.get(2 * i + 1)).map(|(port, rust)| port / rust))));
+    part_by_part(
+        rows.iter().enumerate().map(|(i, row)| (row, counts.get(2 * i).zip(counts.get(2 * i + 1)).map(|(port, rust)| port / rust))),
+    );
     linear::table();
 }
 
@@ -65,7 +68,9 @@ fn part_by_part<'a>(rows: impl Iterator<Item = (&'a Row, Option<f64>)>) {
     for (row, instructions) in rows {
         if row.part != part {
             part = row.part;
-            println!("\n| {part} | port, µs | Rust, µs | ratio | at most | instructions | others to the Rust |\n|---|---|---|---|---|---|---|");
+            println!(
+                "\n| {part} | port, µs | Rust, µs | ratio | at most | instructions | others to the Rust |\n|---|---|---|---|---|---|---|"
+            );
         }
         println!("{}", measured(row, instructions));
     }

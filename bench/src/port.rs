@@ -12,6 +12,10 @@ unsafe extern "C" {
     fn brine_arri_block(element: *const u8, element_len: usize, out: *mut u64) -> u32;
     fn brine_payload(element: *const u8, element_len: usize, payload: *mut u8, payload_len: usize, out: *mut u64) -> u32;
     fn brine_sequence(s: *const u8, s_len: usize, out: *mut u64, positions: *mut i64) -> u32;
+    fn brine_of_dynamic(s: *const u8, s_len: usize, present: *mut u64, whole: *mut u64, singles: *mut f32, doubles: *mut f64) -> u32;
+    fn brine_of_alexa35(s: *const u8, s_len: usize, present: *mut u64, whole: *mut u64, singles: *mut f32, doubles: *mut f64) -> u32;
+    fn brine_camera(s: *const u8, s_len: usize, kind: *mut u64, whole: *mut u64, floats: *mut f64) -> u32;
+    fn brine_records(s: *const u8, s_len: usize, end: usize, at: usize, records: *mut u64, records_len: usize, out: *mut u64) -> u32;
     fn brine_descriptor(s: *const u8, s_len: usize, present: *mut u64, whole: *mut u64, rates_present: *mut u64, rates: *mut f64) -> u32;
 }
 
@@ -94,4 +98,43 @@ pub fn descriptor_items(s: &[u8]) -> u64 {
     let [p, w, r] = [present.as_mut_ptr(), whole.as_mut_ptr(), rates_present.as_mut_ptr()];
     unsafe { brine_descriptor(s.as_ptr(), s.len(), p, w, r, rates.as_mut_ptr()) };
     present.iter().chain(&rates_present).sum()
+}
+
+/// A frame's values, as a call writes them out.
+#[derive(Default)]
+pub struct Values {
+    pub present: [u64; 19],
+    pub whole: [u64; 9],
+    pub singles: [f32; 6],
+    pub doubles: [f64; 8],
+}
+
+/// The values in ARRI's 256 bytes.
+pub fn of_dynamic(block: &[u8]) -> Values {
+    let mut v = Values::default();
+    let (present, whole, singles) = (v.present.as_mut_ptr(), v.whole.as_mut_ptr(), v.singles.as_mut_ptr());
+    unsafe { brine_of_dynamic(block.as_ptr(), block.len(), present, whole, singles, v.doubles.as_mut_ptr()) };
+    v
+}
+
+/// The values in an ALEXA 35's element.
+pub fn of_alexa35(element: &[u8]) -> Values {
+    let mut v = Values::default();
+    let (present, whole, singles) = (v.present.as_mut_ptr(), v.whole.as_mut_ptr(), v.singles.as_mut_ptr());
+    unsafe { brine_of_alexa35(element.as_ptr(), element.len(), present, whole, singles, v.doubles.as_mut_ptr()) };
+    v
+}
+
+/// How many fields of Canon's packs have a value.
+pub fn camera_fields(s: &[u8]) -> u64 {
+    let (mut kind, mut whole, mut floats) = ([0; 31], [0; 31], [0.0; 31]);
+    unsafe { brine_camera(s.as_ptr(), s.len(), kind.as_mut_ptr(), whole.as_mut_ptr(), floats.as_mut_ptr()) };
+    kind.iter().filter(|kind| **kind != 0).count() as u64
+}
+
+/// Puts records of the finished walk of all of s into lent room, three places each: how many, and the next cursor.
+pub fn records(s: &[u8], at: usize, room: &mut [u64]) -> [u64; 2] {
+    let mut out = [0; 2];
+    unsafe { brine_records(s.as_ptr(), s.len(), s.len(), at, room.as_mut_ptr(), room.len(), out.as_mut_ptr()) };
+    out
 }

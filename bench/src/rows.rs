@@ -4,7 +4,7 @@ use memchr::memmem;
 
 use crate::inputs::*;
 use crate::measure::Pass;
-use crate::{port, published, tables};
+use crate::{port, published, tables, values};
 
 /// A row: the same work by the port and by the Rust, and by others for interest.
 pub struct Row {
@@ -23,7 +23,9 @@ pub fn rows() -> Vec<Row> {
     searches(&mut rows);
     near_keys(&mut rows);
     walks(&mut rows);
+    batches(&mut rows);
     tables::rows(&mut rows);
+    values::rows(&mut rows);
     rows
 }
 
@@ -135,6 +137,41 @@ fn walks(rows: &mut Vec<Row>) {
             name: name.into(),
             target,
             port: Box::new(|| walk(s)),
+            rust: Box::new(|| published::walk(s)),
+            others: vec![("plain Rust over a slice", Box::new(|| published::plain_walk(s)))],
+        });
+    }
+}
+
+/// The same sum, by exported calls that put up to 1,000 records each.
+fn batch_walk(s: &[u8]) -> u64 {
+    let (mut at, mut sum) = (0, 0u64);
+    let mut room = [0; 3000];
+    loop {
+        let [count, next] = port::records(s, at, &mut room);
+        for record in room.chunks_exact(3).take(count as usize) {
+            sum = sum.wrapping_mul(31).wrapping_add(record[2] ^ record[1]);
+        }
+        if (count as usize) < room.len() / 3 {
+            return sum;
+        }
+        at = next as usize;
+    }
+}
+
+/// Walks over 1 MiB in batches.
+fn batches(rows: &mut Vec<Row>) {
+    let inputs = [
+        ("small values (0 to 20 bytes)", records(MIB, 1, (0, 20), (0, 0))),
+        ("10 to 40 bytes of junk between small records", records(MIB, 1, (0, 20), (10, 40))),
+    ];
+    for (name, bytes) in inputs {
+        let s = kept(bytes);
+        rows.push(Row {
+            part: "batches of 1,000 records a call, 1 MiB",
+            name: name.into(),
+            target: Some(0.8),
+            port: Box::new(|| batch_walk(s)),
             rust: Box::new(|| published::walk(s)),
             others: vec![("plain Rust over a slice", Box::new(|| published::plain_walk(s)))],
         });

@@ -21,7 +21,7 @@ pub fn rows(rows: &mut Vec<Row>) {
 }
 
 /// A row of calls, each answering a number.
-fn row(name: &str, target: Option<f64>, port: impl Fn() -> u64 + 'static, rust: impl Fn() -> u64 + 'static) -> Row {
+pub fn row(name: &str, target: Option<f64>, port: impl Fn() -> u64 + 'static, rust: impl Fn() -> u64 + 'static) -> Row {
     Row {
         part: "tables and frame values, 256 calls",
         name: name.into(),
@@ -48,7 +48,12 @@ fn primers(rows: &mut Vec<Row>) {
     let s = kept(primer(100));
     let last = |label: &[u8]| label[15] as u64;
     let found = move |tag: u16| last(&s[port::primer(s, tag as u64)[1] as usize..][..16]);
-    rows.push(row("primer of 100 entries: map made (Rust) and one look-up", Some(1.0), move || found(0x8032), move || last(&arri::primer(s)[&0x8032])));
+    rows.push(row(
+        "primer of 100 entries: map made (Rust) and one look-up",
+        Some(1.0),
+        move || found(0x8032),
+        move || last(&arri::primer(s)[&0x8032]),
+    ));
     let all = |find: &dyn Fn(u16) -> u64| (0x8000..0x8064).map(find).sum();
     rows.push(row(
         "primer of 100 entries: map made (Rust) and 100 look-ups",
@@ -89,11 +94,16 @@ fn set(items: u16, length: usize) -> Vec<u8> {
 /// Runs and local items, stepped through by exported calls.
 fn items(rows: &mut Vec<Row>) {
     let run = kept(records(2000, 1, (0, 20), (0, 0)));
-    rows.push(row("run of some 75 KLVs", Some(1.0), || lengths(|at| port::run(run, at)), || mxf::run_lengths(run)));
+    let port = || lengths(|at| port::run(run, at));
+    rows.push(row("run of some 75 KLVs: a call each on both sides", Some(1.0), port, || lengths(|at| mxf::run_step(run, at))));
+    rows.push(row("run of some 75 KLVs: a call each, the Rust's loop inlined", None, port, || mxf::run_lengths(run)));
     let long = kept(records(4000, 4, (0, 40), (0, 0)));
-    rows.push(row("run of some 100 KLVs, lengths of 4 bytes", Some(1.0), || lengths(|at| port::run(long, at)), || mxf::run_lengths(long)));
+    let port = || lengths(|at| port::run(long, at));
+    rows.push(row("run of some 100 KLVs, lengths of 4 bytes: a call each", Some(1.0), port, || lengths(|at| mxf::run_step(long, at))));
     let local = kept(set(50, 8));
-    rows.push(row("50 local items", Some(1.0), || lengths(|at| port::item(local, 2, false, at)), || arri::item_lengths(local, false)));
+    let port = || lengths(|at| port::item(local, 2, false, at));
+    rows.push(row("50 local items: a call each on both sides", Some(1.0), port, || lengths(|at| arri::item_step(local, false, at))));
+    rows.push(row("50 local items: a call each, the Rust's loop inlined", None, port, || arri::item_lengths(local, false)));
     let (a, b) = (&run[..16], kept(run[..16].to_vec()));
     rows.push(row("same label", Some(1.0), || port::same_label(a, b) as u64, || mxf::same_label(a, b) as u64));
 }
@@ -172,7 +182,8 @@ fn others(rows: &mut Vec<Row>) {
     let s = kept(items_of(&[(0x3c0a, 16), (0x0102, 16), (0x4401, 32), (0x1501, 8), (0x1201, 8)]));
     let found = |out: [u64; 8]| out[0] + out[3] + out[6] + out[7];
     rows.push(row("sequence info", Some(1.0), move || found(port::sequence(s).0), || canon::sequence(s).as_object().unwrap().len() as u64));
-    let tags = [0x3c0a, 0x3001, 0x3002, 0x3202, 0x3203, 0x3204, 0x3205, 0x3206, 0x3207, 0x3208, 0x3209, 0x320a, 0x320b, 0x320e, 0x3306, 0x3201];
+    let tags =
+        [0x3c0a, 0x3001, 0x3002, 0x3202, 0x3203, 0x3204, 0x3205, 0x3206, 0x3207, 0x3208, 0x3209, 0x320a, 0x320b, 0x320e, 0x3306, 0x3201];
     let s = kept(items_of(&tags.map(|tag| (tag, if tag == 0x3c0a || tag == 0x3201 { 16 } else { 8 }))));
     rows.push(row("picture descriptor of 16 items", Some(1.0), || port::descriptor_items(s), || sony::set_items(s).unwrap() as u64));
 }

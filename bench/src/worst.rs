@@ -44,7 +44,8 @@ fn time(s: &[u8]) -> u128 {
 /// The slowest of them, each beside the published loop over a slice, and the fastest.
 pub fn table() {
     let inputs = periods().into_iter().map(|pattern| (repeated(&pattern, BYTES), pattern));
-    let mut found: Vec<_> = inputs.filter(|(s, _)| published::plain_search(s, 0) == BYTES).map(|(s, pattern)| (time(&s), pattern)).collect();
+    let mut found: Vec<_> =
+        inputs.filter(|(s, _)| published::plain_search(s, 0) == BYTES).map(|(s, pattern)| (time(&s), pattern)).collect();
     found.sort();
     println!("{} periodic inputs of 16 KiB\n\n| ns | period | begins |\n|---|---|---|", found.len());
     for (time, pattern) in found.iter().rev().take(10).chain(&found[..1]) {

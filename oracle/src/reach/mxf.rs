@@ -17,6 +17,15 @@ pub fn run_lengths(run: &[u8]) -> u64 {
     klvs(run).map(|(_, value)| value.len() as u64).sum()
 }
 
+/// A step of a run behind a call that writes to places, as an exported one would: found, place, value's place, value's
+/// length, next cursor.
+#[inline(never)]
+pub fn run_step(run: &[u8], at: usize) -> [u64; 5] {
+    let Some((_, value)) = run.get(at..).and_then(|rest| klvs(rest).next()) else { return [0, 0, 0, 0, at as u64] };
+    let place = value.as_ptr() as u64 - run.as_ptr() as u64;
+    [1, at as u64, place, value.len() as u64, place + value.len() as u64]
+}
+
 /// Whether two labels are the same.
 pub fn same_label(a: &[u8], b: &[u8]) -> bool {
     same_ul(a, b)
