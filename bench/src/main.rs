@@ -10,7 +10,7 @@ mod tables;
 mod values;
 mod worst;
 
-use measure::{bench_pass, least};
+use measure::{counted, least};
 use rows::{Row, rows};
 
 const USAGE: &str = "\
@@ -18,7 +18,7 @@ bench all [FILE]     all tables, with the instructions of each side of each row 
 bench some WORDS ..  the rows whose part and name have these words
 bench linear         the arriving walk alone
 bench worst          the periodic inputs that the port's search takes longest for
-bench once           each side of each row once, for counting instructions";
+bench once WORDS ..  each side of each row that has these words once, for counting instructions";
 
 fn main() {
     let args: Vec<String> = std::env::args().skip(1).collect();
@@ -29,7 +29,7 @@ fn main() {
         ["some", ..] => part_by_part(rows().iter().filter(|row| has(row, &args[1..])).map(|row| (row, None))),
         ["linear"] => linear::table(),
         ["worst"] => worst::table(),
-        ["once"] => once(),
+        ["once", ..] => once(&args[1..]),
         _ => println!("{USAGE}"),
     }
 }
@@ -45,11 +45,11 @@ fn has(row: &Row, words: &[&str]) -> bool {
     words.iter().all(|word| row.part.contains(word) || row.name.contains(word))
 }
 
-/// Each side of each row once: `bench_pass` is what callgrind counts.
-fn once() {
-    for row in rows() {
-        bench_pass(&row.port);
-        bench_pass(&row.rust);
+/// Each side of each row that has all words once, under callgrind.
+fn once(words: &[&str]) {
+    for row in rows().into_iter().filter(|row| has(row, words)) {
+        counted(&row.port);
+        counted(&row.rust);
     }
 }
 

@@ -10,11 +10,32 @@ pub type Pass = Box<dyn Fn() -> u64>;
 const ROUNDS: usize = 40;
 const TIME: Duration = Duration::from_millis(600);
 
-/// Runs a pass: the function that callgrind counts the instructions of, and after which it writes them down.
-#[unsafe(no_mangle)]
-#[inline(never)]
-pub fn bench_pass(pass: &Pass) -> u64 {
-    black_box(pass())
+/// What callgrind is asked: to collect or to stop collecting, and to write down what it has collected.
+const TOGGLE_COLLECT: u64 = CALLGRIND + 2;
+const DUMP: u64 = CALLGRIND;
+const CALLGRIND: u64 = (b'C' as u64) << 24 | (b'T' as u64) << 16;
+
+/// Asks callgrind, where the program runs under it: else the instructions do nothing (valgrind.h).
+fn ask(request: u64) {
+    let args = [request, 0, 0, 0, 0, 0];
+    #[cfg(target_arch = "aarch64")]
+    unsafe {
+        std::arch::asm!("ror x12, x12, #3", "ror x12, x12, #13", "ror x12, x12, #51", "ror x12, x12, #61", "orr x10, x10, x10",
+            in("x4") args.as_ptr(), inout("x3") 0u64 => _);
+    }
+    #[cfg(target_arch = "x86_64")]
+    unsafe {
+        std::arch::asm!("rol rdi, 3", "rol rdi, 13", "rol rdi, 61", "rol rdi, 51", "xchg rbx, rbx",
+            in("rax") args.as_ptr(), inout("rdx") 0u64 => _);
+    }
+}
+
+/// Runs a pass once under callgrind, which writes down its instructions.
+pub fn counted(pass: &Pass) {
+    ask(TOGGLE_COLLECT);
+    black_box(pass());
+    ask(TOGGLE_COLLECT);
+    ask(DUMP);
 }
 
 /// The least time of each pass in ns, over rounds in which each has its turn: other work on the machine makes a pass longer,
@@ -26,7 +47,7 @@ pub fn least(passes: &[&Pass]) -> Vec<f64> {
     while rounds < ROUNDS || began.elapsed() < TIME {
         for (pass, least) in passes.iter().zip(&mut least) {
             let began = Instant::now();
-            bench_pass(pass);
+            black_box(pass());
             *least = began.elapsed().min(*least);
         }
         rounds += 1;

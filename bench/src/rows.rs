@@ -44,6 +44,8 @@ fn searches(rows: &mut Vec<Row>) {
         ("hostile: half of the bytes 0e", half(0x0e, MIB), 0.4),
         ("hostile: `06 34` repeated", repeated(&[0x06, 0x34], MIB), 0.4),
         ("hostile: `06 0e 2c 34` repeated", repeated(&[0x06, 0x0e, 0x2c, 0x34], MIB), 0.4),
+        ("hostile: `34 06 06 34 0e 0e` repeated", repeated(&[0x34, 0x06, 0x06, 0x34, 0x0e, 0x0e], MIB), 0.4),
+        ("hostile: `0e 00 34` and 10 zeros repeated", repeated(&[0x0e, 0, 0x34, 0, 0, 0, 0, 0, 0, 0, 0, 0, 0], MIB), 0.4),
         ("hostile: `0e 00 34` in each 64 bytes", pairs(16, MIB), 0.4),
         ("hostile: `0e 00 34` in half of the 64 bytes, by chance", pairs(8, MIB), 0.4),
         ("hostile: `0e 00 34` in 7 of 8 of the 64 bytes, by chance", pairs(14, MIB), 0.4),
