@@ -4,8 +4,8 @@ use crate::inputs::*;
 use crate::measure::{Pass, least};
 use crate::port;
 
-/// The bytes of the shortest upload: the others have twice and four times as many.
-const SHORTEST: usize = 1 << 18;
+/// The pieces that uploads come in, each with the bytes of the shortest upload: the others have twice and four times as many.
+const PIECES: [(usize, usize); 3] = [(1, 1 << 14), (1400, 1 << 18), (1 << 16, 1 << 18)];
 
 /// An upload: its name, its bytes given their count, and how many bytes more the limit lets come.
 type Upload = (&'static str, fn(usize) -> Vec<u8>, usize);
@@ -16,7 +16,7 @@ const UPLOADS: [Upload; 8] = [
     ("records of 8 KiB", |count| records(count, 4, (8192, 8192), (0, 0)), 1 << 20),
     ("hostile: random bytes, no key", random, 1 << 20),
     ("hostile: `06 0e 2b` repeated, so that pieces end in it", |count| repeated(&[0x06, 0x0e, 0x2b], count), 1 << 20),
-    ("hostile: `06 34` repeated", |count| repeated(&[0x06, 0x34], count), 1 << 20),
+    ("hostile: `06 0e 2c 34` repeated", |count| repeated(&[0x06, 0x0e, 0x2c, 0x34], count), 1 << 20),
     ("hostile: one value that is waited for to the end", |count| long_values(count, count), 64),
     ("hostile: adjoining keys with no length", no_lengths, 1 << 20),
     ("hostile: adjoining keys, each with a value past the limit", |count| long_values(24, count), 0),
@@ -58,13 +58,14 @@ fn walk(upload: &[u8], piece: usize, limit: usize) -> u64 {
 
 /// The table: ns a byte for uploads of n, 2n and 4n bytes.
 pub fn table() {
-    println!("\n| upload | pieces of | n = 256 KiB, ns a byte | 2n | 4n | 4n to n |\n|---|---|---|---|---|---|");
+    println!("\n| upload | bytes a piece | n | ns a byte at n | at 2n | at 4n | 4n to n |\n|---|---|---|---|---|---|---|");
     for (name, upload, more) in UPLOADS {
-        for piece in [1, 1400, 1 << 16] {
-            let passes: Vec<Pass> = [1, 2, 4].map(|times| pass(upload(SHORTEST * times), piece, more)).into();
+        for (piece, shortest) in PIECES {
+            let passes: Vec<Pass> = [1, 2, 4].map(|times| pass(upload(shortest * times), piece, more)).into();
             let times = least(&passes.iter().collect::<Vec<_>>());
-            let each: Vec<f64> = times.iter().zip([1.0, 2.0, 4.0]).map(|(time, times)| time / (SHORTEST as f64 * times)).collect();
-            println!("| {name} | {piece} | {:.3} | {:.3} | {:.3} | **{:.2}** |", each[0], each[1], each[2], each[2] / each[0]);
+            let each: Vec<f64> = times.iter().zip([1.0, 2.0, 4.0]).map(|(time, times)| time / (shortest as f64 * times)).collect();
+            let [n, two, four] = each[..] else { unreachable!("three lengths") };
+            println!("| {name} | {piece} | {} KiB | {n:.4} | {two:.4} | {four:.4} | **{:.2}** |", shortest >> 10, four / n);
         }
     }
 }

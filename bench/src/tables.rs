@@ -9,8 +9,9 @@ use crate::inputs::{KEY, Random, records};
 use crate::port;
 use crate::rows::{Row, kept};
 
-/// The calls of a pass.
+/// The calls of a pass: few where a call is long, since a short pass is the less disturbed.
 const CALLS: u64 = 256;
+const LONG_CALLS: u64 = 8;
 
 /// The rows.
 pub fn rows(rows: &mut Vec<Row>) {
@@ -22,12 +23,13 @@ pub fn rows(rows: &mut Vec<Row>) {
 
 /// A row of calls, each answering a number.
 pub fn row(name: &str, target: Option<f64>, port: impl Fn() -> u64 + 'static, rust: impl Fn() -> u64 + 'static) -> Row {
+    let calls = if name.starts_with("hostile") || name.ends_with("100 look-ups") { LONG_CALLS } else { CALLS };
     Row {
-        part: "tables and frame values, 256 calls",
+        part: "tables and frame values, 256 calls (hostile ones and 100 look-ups: 8)",
         name: name.into(),
         target,
-        port: Box::new(move || (0..CALLS).map(|_| std::hint::black_box(port())).sum()),
-        rust: Box::new(move || (0..CALLS).map(|_| std::hint::black_box(rust())).sum()),
+        port: Box::new(move || (0..calls).map(|_| std::hint::black_box(port())).sum()),
+        rust: Box::new(move || (0..calls).map(|_| std::hint::black_box(rust())).sum()),
         others: Vec::new(),
     }
 }
