@@ -96,7 +96,7 @@ fn near_keys(rows: &mut Vec<Row>) {
         };
         rows.push(Row {
             part: "key soon found",
-            name: format!("{distance} bytes on"),
+            name: format!("{distance} byte{} on", if distance == 1 { "" } else { "s" }),
             target: (distance <= 16).then_some(1.1),
             port: Box::new(move || all(port::next_key)),
             rust: Box::new(move || published::searches(s, after)),
