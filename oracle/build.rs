@@ -7,7 +7,7 @@ use std::process::exit;
 
 /// The files that are compiled whole, and the child module that reaches into each.
 const WHOLE: [(&str, Option<&str>); 6] = [
-    ("mxf.rs", None),
+    ("mxf.rs", Some("mxf.rs")),
     ("tags_impl.rs", None),
     ("segment_table.rs", None),
     ("arri/mxf.rs", Some("arri.rs")),

@@ -1,29 +1,29 @@
 -- Laws of `specs/Primer.antt`. Assumes nothing.
-use Prim.Native.Nat.{ℕ, _+_, _-_, _*_, _/_, _≤_, _<_}
-use mathlib.Core.Path.{_≡_, refl}
+use Prim.Native.Nat.{ℕ, suc, _+_, _-_, _*_, _/_, _≤_, _<_}
+use mathlib.Core.Path.{_≡_, refl, sym, ap, _∙_}
+use mathlib.Core.Bool.{true, false}
 use mathlib.Core.List.{List}
-use native.Mathlib.Numerals.{add-one}
 use native.Mathlib.Omega.{arith}
 use borrow.Author.Tests.{le-leb, lt-leb, eq-eqb, ne-eqb}
 use lib.ListN.{length}
+use lib.Dec.{eqb}
 use Rattle.parts.specs.Number.{numberAt}
-use Rattle.primer.specs.declared.Entry.{Entry}
 use Rattle.primer.specs.declared.Entry.the-variants.{Label, Nothing}
 use Rattle.primer.specs.Primer.{later, lastOf, entryOf}
 
-module _ (s : List ℕ) (at tag : ℕ) (before : Entry) where
-  pub later-hit : numberAt s at 2 ≡ tag → later s at tag before ≡ Label (at + 2)
-  unfolding later
-  later-hit h = simp (eq-eqb _ _ h)
-
-  pub later-missed : (numberAt s at 2 ≡ tag → ⊥) → later s at tag before ≡ before
-  unfolding later
-  later-missed h = simp (ne-eqb _ _ h)
-
 module _ (s : List ℕ) (tag : ℕ) where
-  pub last-more : (n : ℕ) → later s (8 + 18 * n) tag (lastOf s tag n) ≡ lastOf s tag (n + 1)
+  -- the last of i entries has the tag, or those before it decide
+  pub last-hit : (i : ℕ) → 0 < i → eqb (numberAt s (8 + 18 * (i - 1)) 2) tag ≡ true → lastOf s tag i ≡ Label (8 + 18 * (i - 1) + 2)
+  unfolding lastOf later
+  last-hit i h e = let x : i ≡ suc (i - 1) = omega arith in ap (lastOf s tag) x ∙ rw e
+
+  pub last-missed : (i : ℕ) → 0 < i → eqb (numberAt s (8 + 18 * (i - 1)) 2) tag ≡ false → lastOf s tag (i - 1) ≡ lastOf s tag i
+  unfolding lastOf later
+  last-missed i h e = let x : i ≡ suc (i - 1) = omega arith in sym (ap (lastOf s tag) x ∙ rw e)
+
+  pub last-none : Nothing ≡ lastOf s tag 0
   unfolding lastOf
-  last-more n = rw add-one
+  last-none = refl
 
   pub entry-short : length s < 8 → entryOf s tag ≡ Nothing
   unfolding entryOf

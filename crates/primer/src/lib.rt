@@ -4,8 +4,9 @@
 ghost use mathlib.Core.Path.{_≡_};
 ghost use Prim.Native.Nat.{_+_, _≤_};
 ghost use lib.ListN.{length};
+ghost use lib.Dec.{eqb};
 ghost use Rattle.parts.specs.Number.{numberAt};
-ghost use Rattle.primer.specs.Primer.{later, entryOf};
+ghost use Rattle.primer.specs.Primer.{entryOf};
 use parts::number;
 
 // What the primer has for a tag.
@@ -15,19 +16,16 @@ pub enum Entry {
     Nothing,
 }
 
-// The entry at a place where it has the tag, else the one before it.
-fn last_of(s: &[u8], at: usize, tag: u64, before: Entry) -> Entry
+// Whether the entry at a place has the tag.
+fn has(s: &[u8], at: usize, tag: u64) -> bool
     requires { ⌜ at + 18 ≤ length (now s) ⌝ }
-    ensures { λ r. ⌜ r ≡ later (now (s .entry)) at tag before ⌝ }
+    ensures { λ r. ⌜ r ≡ eqb (numberAt (now (s .entry)) at 2) tag ⌝ }
 {
     let end = at + 2;
-    if number(&s[at..end]) == tag {
-        return Entry::Label(end);
-    }
-    before
+    number(&s[at..end]) == tag
 }
 
-// The label of a local tag, in the primer's value.
+// The label of a local tag, in the primer's value: the last of equal tags is the first that is met from the end.
 pub fn find(s: &[u8], tag: u64) -> Entry
     ensures { λ r. ⌜ r ≡ entryOf (now (s .entry)) tag ⌝ }
 {
@@ -38,11 +36,14 @@ pub fn find(s: &[u8], tag: u64) -> Entry
         return Entry::Nothing;
     }
     let n = (s.len() - 8) / 18;
-    let mut entry = Entry::Nothing;
-    let mut i = 0;
-    while i < n {
-        entry = last_of(s, 8 + 18 * i, tag, entry);
-        i += 1;
+    let mut i = n;
+    while 0 < i {
+        let at = 8 + 18 * (i - 1);
+        if has(s, at, tag) {
+            let label = at + 2;
+            return Entry::Label(label);
+        }
+        i -= 1;
     }
-    entry
+    Entry::Nothing
 }

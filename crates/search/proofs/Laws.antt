@@ -106,13 +106,13 @@ module _ (s : List ℕ) where
   pub passes-on : (q k n : ℕ) → Passes s q (q + k) → Passes s (q + k) (q + k + n) → Passes s q (q + (k + n))
   passes-on q k n a b e h = let x : q + (k + n) ≡ q + k + n = omega arith in rw x (b e (omega arith) ∙ a e (omega arith))
 
-  pub ends-unmet : (q : ℕ) → (eqb (getD s q 0) 0x06 && eqb (getD s (q + 3) 0) 0x34) ≡ false → keyAt s q ≡ false
+  pub pair-unmet : (q : ℕ) → (eqb (getD s (q + 1) 0) 0x0e && eqb (getD s (q + 3) 0) 0x34) ≡ false → keyAt s q ≡ false
   unfolding keyAt
-  ends-unmet q = go (eqb (getD s q 0) 0x06) (eqb (getD s (q + 1) 0) 0x0e) (eqb (getD s (q + 2) 0) 0x2b) (eqb (getD s (q + 3) 0) 0x34)
+  pair-unmet q = go (eqb (getD s q 0) 0x06) (eqb (getD s (q + 1) 0) 0x0e) (eqb (getD s (q + 2) 0) 0x2b) (eqb (getD s (q + 3) 0) 0x34)
     where
-      go : (a b c d : Bool) → (a && d) ≡ false → (a && (b && (c && d))) ≡ false
-      go false b c d z = refl
-      go true b c d z = rw (z, and-false, and-false)
+      go : (a b c d : Bool) → (b && d) ≡ false → (a && (b && (c && d))) ≡ false
+      go a false c d z = and-false a
+      go a true c d z = rw (z, and-false, and-false)
 
 -- Waiting places
 

@@ -66,6 +66,13 @@ module _ (s o : List ℕ) (n : ℕ) (e : n ≡ length (payloadOf s)) where
   unfolding payloadSaid payloadInto
   put-whole h = simp (sym e, le-leb _ _ h) (refl, refl)
 
+-- room for the whole element is room for it
+pub put-fitting : (s o o₂ : List ℕ) (r : ℕ) → length s ≤ length o → Put (payloadOf s) o 0 o₂ r → ((0, r) ≡ payloadSaid s (length o)) × (o₂ ≡ payloadInto s o)
+put-fitting s o o₂ r h p =
+    let e : r ≡ length (payloadOf s) = omega (arith, p .place, payload-fits s) in
+    let w = put-whole s o r e (omega (arith, payload-fits s)) in
+    (w .0, p .wrote ∙ w .1)
+
 -- the loop that puts it, at p: `done` is put, and the lines from p on give the rest
 pub record Going (s o₀ o : List ℕ) (r left p : ℕ) : Type 0 where
   pub done : List ℕ

@@ -187,11 +187,16 @@ pub enum Payload {
     Longer(usize),
 }
 
-// Puts an element's payload at the start of out. Where out has less room, nothing is put.
+// Puts an element's payload at the start of out. Where out has less room, nothing is put. Room for the whole element is
+// enough for any payload, and spares the count.
 pub fn payload_into(s: &[u8], out: &mut [u8]) -> Payload
     ensures { λ r. ⌜ said r ≡ payloadSaid (now (s .entry)) (length (now (out .entry))) ⌝ }
     ensures { λ r. ⌜ now (out .exit) ≡ payloadInto (now (s .entry)) (now (out .entry)) ⌝ }
 {
+    if s.len() <= out.len() {
+        let put = put_payload(s, out);
+        return Payload::Is(put);
+    }
     let n = length_of(s);
     if out.len() < n {
         return Payload::Longer(n);

@@ -33,6 +33,9 @@ put-none o at = record { wrote = refl; place = omega arith }
 pub put-full : (o : List ℕ) (at b : ℕ) → length o ≤ at → Put (b ∷ []) o at o at
 put-full o at b h = record { wrote = sym (set-out o at b h); place = omega arith }
 
+pub put-one : (o : List ℕ) (at b : ℕ) → at < length o → Put (b ∷ []) o at (set o at b) (at + 1)
+put-one o at b h = record { wrote = refl; place = omega arith }
+
 pub length-put : {t o₀ : List ℕ} {at : ℕ} {o : List ℕ} {r : ℕ} → Put t o₀ at o r → length o ≡ length o₀
 length-put {t} {o₀} {at} a = ap length (a .wrote) ∙ length-sets o₀ at t
 
@@ -52,6 +55,14 @@ put-unique a b = (a .wrote ∙ sym (b .wrote), a .place ∙ sym (b .place))
 pub put-next : (s : List ℕ) {o₀ : List ℕ} {at : ℕ} (i : ℕ) {o : List ℕ} {r : ℕ} {o₂ : List ℕ} {q : ℕ} → i < length s
     → Put (take i s) o₀ at o r → Put (getD s i 0 ∷ []) o r o₂ q → Put (take (i + 1) s) o₀ at o₂ q
 put-next s i h a b = rw (add-one, take-suc s i 0 h) (a ▹ b)
+
+-- the same where there is room: each byte is stored behind the last
+pub put-start : (o : List ℕ) (at : ℕ) → Put [] o at o (at + 0)
+put-start o at = let x : at + 0 ≡ at = omega arith in rw x (put-none o at)
+
+pub put-more : (s : List ℕ) {o₀ : List ℕ} (at i : ℕ) {o : List ℕ} → i < length s → at + i < length o → Put (take i s) o₀ at o (at + i)
+    → Put (take (i + 1) s) o₀ at (set o (at + i) (getD s i 0)) (at + (i + 1))
+put-more s at i {o} h m a = let x : at + (i + 1) ≡ at + i + 1 = omega arith in rw x (put-next s i h a (put-one o (at + i) (getD s i 0) m))
 
 pub put-end : (s : List ℕ) {o₀ : List ℕ} {at : ℕ} (i : ℕ) {o : List ℕ} {r : ℕ} → length s ≤ i → Put (take i s) o₀ at o r → Put s o₀ at o r
 put-end s i h a = rw (take-all i s h) at a

@@ -17,6 +17,19 @@ pub fn items(set: &[u8], ber: bool) -> impl Iterator<Item = (u16, &[u8])> {
     local_items(set, ber)
 }
 
+/// The lengths of a local set's items, together.
+pub fn item_lengths(set: &[u8], ber: bool) -> u64 {
+    local_items(set, ber).map(|(_, value)| value.len() as u64).sum()
+}
+
+/// A step over a local set's items behind a call that writes to places, as an exported one would.
+#[inline(never)]
+pub fn item_step(set: &[u8], ber: bool, at: usize) -> [u64; 5] {
+    let Some((_, value)) = set.get(at..).and_then(|rest| local_items(rest, ber).next()) else { return [0, 0, 0, 0, at as u64] };
+    let place = value.as_ptr() as u64 - set.as_ptr() as u64;
+    [1, at as u64, place, value.len() as u64, place + value.len() as u64]
+}
+
 /// ARRI's 256 bytes of an element.
 pub fn dynamic(element: &[u8]) -> Option<&[u8; 256]> {
     dynamic_metadata(element)

@@ -15,3 +15,8 @@ pub fn set(bytes: &[u8]) -> Option<Vec<(String, serde_json::Value)>> {
     let items = parse_set(&mut BufReader::new(Cursor::new(bytes)), bytes.len() as u64).ok()?;
     Some(items.into_iter().map(|(name, value)| (format!("{name:?}"), value)).collect())
 }
+
+/// How many items a descriptor has, or nothing for a set that is refused.
+pub fn set_items(bytes: &[u8]) -> Option<usize> {
+    parse_set(&mut BufReader::new(Cursor::new(bytes)), bytes.len() as u64).ok().map(|items| items.len())
+}

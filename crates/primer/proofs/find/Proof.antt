@@ -1,22 +1,22 @@
--- `primer::find` meets its contract. The loop's invariant: the entry is the last with the tag among those passed.
+-- `primer::find` meets its contract. The loop's invariant: no entry from i on has the tag, so those before decide.
 use Prim.Native.Nat.{_-_, _/_, _≤_}
-use mathlib.Core.Path.{_≡_, refl, sym, _∙_}
+use mathlib.Core.Path.{_≡_, refl, sym, ap, _∙_}
 use native.Mathlib.Omega.{arith}
 use denote.Ref.{now}
 use lib.ListN.{length}
 use Rattle.parts.specs.Number.{numberAt}
 use Rattle.parts.proofs.Parts.{number-read}
 use Rattle.primer.specs.Primer.{lastOf}
-use Rattle.primer.proofs.Laws.{last-more, entry-short, entry-other, entry-of}
+use Rattle.primer.proofs.Laws.{last-hit, last-missed, last-none, entry-short, entry-other, entry-of}
 use borrow.Author.Needs.{needs}
 use Rattle.primer.proofs.find.Statement.{statement}
 use Rattle.primer.proofs.find.Tie as tie
 
 abbrev Inv-loop : tie.InvT-loop
-Inv-loop s tag n entry₀ i₀ entry i = (i ≤ n) × (entry ≡ lastOf s tag i)
+Inv-loop s tag n i₀ i = (i ≤ n) × (lastOf s tag i ≡ lastOf s tag n)
 
 abbrev μ-loop : tie.MeasureT-loop
-μ-loop s tag n entry₀ i₀ entry i = n - i
+μ-loop s tag n i₀ i = i
 
 -- the size of an entry, as it is written
 size-of : (c : tie.After-number Inv-loop μ-loop) → c .number .result ≡ numberAt (now (c .before .before .before .before .args .s)) 4 4
@@ -46,34 +46,49 @@ sub-n : tie.Need-sub-n Inv-loop μ-loop
 sub-n c = search needs
 
 loop-holds : tie.Need-loop-holds Inv-loop μ-loop
-unfolding lastOf
 loop-holds c = (omega arith, refl)
 
-mul-last-of : tie.Need-mul-last-of Inv-loop μ-loop
-mul-last-of c = search needs
+sub-at : tie.Need-sub-at Inv-loop μ-loop
+sub-at c = search needs
 
-add-last-of : tie.Need-add-last-of Inv-loop μ-loop
-add-last-of c = search needs
+mul-at : tie.Need-mul-at Inv-loop μ-loop
+mul-at c = search needs
 
-last-of-requires : tie.Need-last-of-requires Inv-loop μ-loop
-last-of-requires c κs = search needs
+add-at : tie.Need-add-at Inv-loop μ-loop
+add-at c = search needs
 
-add-i : tie.Need-add-i Inv-loop μ-loop
-add-i c = search needs
+has-requires : tie.Need-has-requires Inv-loop μ-loop
+has-requires c κs = search needs
+
+add-label : tie.Need-add-label Inv-loop μ-loop
+add-label c = search needs
+
+returns-3 : tie.Need-returns-3 Inv-loop μ-loop
+returns-3 c =
+    let l = c .before .before .before in
+    sym (last-hit _ _ (l .loop .i) (omega arith) (sym (c .before .has .ensures) ∙ c .if3 .taken))
+    ∙ l .loop .inv .1
+    ∙ sym (entry-of _ _ (omega arith) (sym (size-of (l .before .before)) ∙ omega arith))
+
+sub-i : tie.Need-sub-i Inv-loop μ-loop
+sub-i c = search needs
 
 loop-less : tie.Need-loop-less Inv-loop μ-loop
 loop-less c = search needs
 
 loop-again : tie.Need-loop-again Inv-loop μ-loop
 loop-again c =
-    let l = c .before .before in
-    (omega arith, rw (c .last-of .ensures, l .loop .inv .1) (last-more _ _ _))
+    let l = c .before .before .before in
+    (omega arith, last-missed _ _ (l .loop .i) (omega arith) (sym (c .before .has .ensures) ∙ c .if3 .left) ∙ l .loop .inv .1)
 
-returns-3 : tie.Need-returns-3 Inv-loop μ-loop
-returns-3 c =
+returns-4 : tie.Need-returns-4 Inv-loop μ-loop
+returns-4 c =
     let l = c .before in
-    let x : l .loop .i ≡ (length (now (l .before .before .before .before .before .before .args .s)) - 8) / 18 = omega arith in
-    l .loop .inv .1 ∙ rw x (sym (entry-of _ _ (omega arith) (sym (size-of (l .before .before)) ∙ omega arith)))
+    let z : 0 ≡ l .loop .i = omega arith in
+    last-none _ _
+    ∙ ap (lastOf _ _) z
+    ∙ l .loop .inv .1
+    ∙ sym (entry-of _ _ (omega arith) (sym (size-of (l .before .before)) ∙ omega arith))
 
 pub find-spec : {M : Type 1} → statement M
 find-spec =
@@ -89,10 +104,13 @@ find-spec =
     returns-2
     sub-n
     loop-holds
-    mul-last-of
-    add-last-of
-    last-of-requires
-    add-i
+    sub-at
+    mul-at
+    add-at
+    has-requires
+    add-label
+    returns-3
+    sub-i
     loop-less
     loop-again
-    returns-3)
+    returns-4)

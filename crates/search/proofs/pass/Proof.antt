@@ -14,14 +14,14 @@ Inv-loop s at k₀ k = (k ≤ 64) × Passes s at (at + k)
 abbrev μ-loop : tie.MeasureT-loop
 μ-loop s at k₀ k = 64 - k
 
-ends-among-requires : tie.Need-ends-among-requires Inv-loop μ-loop
-ends-among-requires c κs = search needs
+pair-among-requires : tie.Need-pair-among-requires Inv-loop μ-loop
+pair-among-requires c κs = search needs
 
 add-result : tie.Need-add-result Inv-loop μ-loop
 add-result c = search needs
 
 returns : tie.Need-returns Inv-loop μ-loop
-returns c = (omega arith, c .before .ends-among .ensures (not-true _ (c .if1 .taken)))
+returns c = (omega arith, c .before .pair-among .ensures (not-true _ (c .if1 .taken)))
 
 loop-holds : tie.Need-loop-holds Inv-loop μ-loop
 loop-holds c = (omega arith, passes-none _ _)
@@ -59,7 +59,7 @@ pass-spec =
     (tie.spec
     Inv-loop
     μ-loop
-    ends-among-requires
+    pair-among-requires
     add-result
     returns
     loop-holds

@@ -14,6 +14,18 @@ Inv-loop out₀ at s p₀ i₀ out p i = Put (take i s) out₀ at out p
 abbrev μ-loop : tie.MeasureT-loop
 μ-loop out₀ at s p₀ i₀ out p i = length s - i
 
+sub-if2 : tie.Need-sub-if2 Inv-loop μ-loop
+sub-if2 c = search needs
+
+put-whole-requires : tie.Need-put-whole-requires Inv-loop μ-loop
+put-whole-requires c κs = search needs
+
+same-length : tie.Need-same-length Inv-loop μ-loop
+same-length c = search needs
+
+returns : tie.Need-returns Inv-loop μ-loop
+returns c = c .before .before .put-whole .ensures
+
 loop-holds : tie.Need-loop-holds Inv-loop μ-loop
 loop-holds c = put-none _ _
 
@@ -32,11 +44,11 @@ loop-less c = search needs
 loop-again : tie.Need-loop-again Inv-loop μ-loop
 loop-again c = let l = c .before .before .before .before .before .before .loop in put-next _ (l .i) (omega arith) (l .inv) (c .before .before .put-byte .ensures)
 
-same-length : tie.Need-same-length Inv-loop μ-loop
-same-length c = length-put (c .before .loop .inv)
+same-length-2 : tie.Need-same-length-2 Inv-loop μ-loop
+same-length-2 c = length-put (c .before .loop .inv)
 
-returns : tie.Need-returns Inv-loop μ-loop
-returns c = let l = c .before .loop in put-end _ (l .i) (omega arith) (l .inv)
+returns-2 : tie.Need-returns-2 Inv-loop μ-loop
+returns-2 c = let l = c .before .loop in put-end _ (l .i) (omega arith) (l .inv)
 
 pub put-all-spec : {M : Type 1} → statement M
 put-all-spec =
@@ -44,11 +56,15 @@ put-all-spec =
     (tie.spec
     Inv-loop
     μ-loop
+    sub-if2
+    put-whole-requires
+    same-length
+    returns
     loop-holds
     shared-slice-read-put-byte
     put-byte-requires
     add-i
     loop-less
     loop-again
-    same-length
-    returns)
+    same-length-2
+    returns-2)

@@ -1,14 +1,14 @@
--- `primer::last_of` meets its contract: the tag is the number of the first two bytes.
+-- `primer::has` meets its contract: the tag is the number of the first two bytes.
 use Prim.Native.Nat.{ℕ}
-use mathlib.Core.Path.{_≡_, sym, _∙_}
+use mathlib.Core.Path.{_≡_, ap, _∙_}
 use native.Mathlib.Omega.{arith}
 use denote.Ref.{now}
+use lib.Dec.{eqb}
 use Rattle.parts.specs.Number.{numberAt}
 use Rattle.parts.proofs.Parts.{number-read}
-use Rattle.primer.proofs.Laws.{later-hit, later-missed}
 use borrow.Author.Needs.{needs}
-use Rattle.primer.proofs.last_of.Statement.{statement}
-use Rattle.primer.proofs.last_of.Tie as tie
+use Rattle.primer.proofs.has.Statement.{statement}
+use Rattle.primer.proofs.has.Tie as tie
 
 tag-of : (c : tie.After-number) → c .number .result ≡ numberAt (now (c .before .before .before .args .s)) (c .before .before .before .args .at) 2
 tag-of c =
@@ -31,19 +31,9 @@ number-requires : tie.Need-number-requires
 number-requires c κs = search needs
 
 returns : tie.Need-returns
-returns c = sym (later-hit _ _ _ _ (sym (tag-of (c .before)) ∙ c .if1 .taken))
+returns c = ap (λ (v : ℕ). eqb v (c .before .before .before .args .tag)) (tag-of c)
 
-returns-2 : tie.Need-returns-2
-returns-2 c = sym (later-missed _ _ _ _ (λ e. c .if1 .left (tag-of (c .before) ∙ e)))
-
-pub last-of-spec : {M : Type 1} → statement M
-last-of-spec =
+pub has-spec : {M : Type 1} → statement M
+has-spec =
     tie.close
-    (tie.spec
-    add-end
-    sub-number
-    part-number-start
-    part-number-end
-    number-requires
-    returns
-    returns-2)
+    (tie.spec add-end sub-number part-number-start part-number-end number-requires returns)

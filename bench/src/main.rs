@@ -1,0 +1,93 @@
+//! The port's speed beside the published Rust's, as tables in markdown: bench/run builds and runs this.
+
+mod inputs;
+mod linear;
+mod measure;
+mod port;
+mod published;
+mod rows;
+mod tables;
+mod values;
+mod worst;
+
+use measure::{counted, least};
+use rows::{Row, rows};
+
+const USAGE: &str = "\
+bench all [FILE]     all tables, with the instructions of each side of each row if a file has them, a number a line
+bench some WORDS ..  the rows whose part and name have these words
+bench linear         the arriving walk alone
+bench worst          the periodic inputs that the port's search takes longest for
+bench once WORDS ..  each side of each row that has these words once, for counting instructions";
+
+fn main() {
+    let args: Vec<String> = std::env::args().skip(1).collect();
+    let args: Vec<&str> = args.iter().map(String::as_str).collect();
+    match args[..] {
+        ["all"] => all(&[]),
+        ["all", file] => all(&counts(file)),
+        ["some", ..] => part_by_part(rows().iter().filter(|row| has(row, &args[1..])).map(|row| (row, None))),
+        ["linear"] => linear::table(),
+        ["worst"] => worst::table(),
+        ["once", ..] => once(&args[1..]),
+        _ => println!("{USAGE}"),
+    }
+}
+
+/// The numbers in the lines of a file.
+fn counts(file: &str) -> Vec<f64> {
+    let text = std::fs::read_to_string(file).unwrap_or_default();
+    text.lines().filter_map(|line| line.trim().parse().ok()).collect()
+}
+
+/// Whether a row's part and name have all words.
+fn has(row: &Row, words: &[&str]) -> bool {
+    words.iter().all(|word| row.part.contains(word) || row.name.contains(word))
+}
+
+/// Each side of each row that has all words once, under callgrind.
+fn once(words: &[&str]) {
+    for row in rows().into_iter().filter(|row| has(row, words)) {
+        counted(&row.port);
+        counted(&row.rust);
+    }
+}
+
+/// All tables.
+fn all(counts: &[f64]) {
+    let rows = rows();
+    part_by_part(
+        rows.iter().enumerate().map(|(i, row)| (row, counts.get(2 * i).zip(counts.get(2 * i + 1)).map(|(port, rust)| port / rust))),
+    );
+    linear::table();
+}
+
+/// The rows, with the ratio of their instructions, in a table a part.
+fn part_by_part<'a>(rows: impl Iterator<Item = (&'a Row, Option<f64>)>) {
+    let mut part = "";
+    for (row, instructions) in rows {
+        if row.part != part {
+            part = row.part;
+            println!(
+                "\n| {part} | port, µs | Rust, µs | ratio | at most | instructions | others to the Rust |\n|---|---|---|---|---|---|---|"
+            );
+        }
+        println!("{}", measured(row, instructions));
+    }
+}
+
+/// A row measured. The sides must agree.
+fn measured(row: &Row, instructions: Option<f64>) -> String {
+    let mut passes = vec![&row.port, &row.rust];
+    passes.extend(row.others.iter().map(|(_, pass)| pass));
+    let answer = (row.port)();
+    for pass in &passes {
+        assert_eq!(pass(), answer, "{}: {}", row.part, row.name);
+    }
+    let times = least(&passes);
+    let (port, rust) = (times[0] / 1000.0, times[1] / 1000.0);
+    let target = row.target.map_or(String::new(), |target| format!("{target}"));
+    let instructions = instructions.map_or(String::new(), |ratio| format!("{ratio:.3}"));
+    let others: Vec<_> = row.others.iter().zip(&times[2..]).map(|((name, _), time)| format!("{name} {:.2}", time / times[1])).collect();
+    format!("| {} | {port:.1} | {rust:.1} | **{:.3}** | {target} | {instructions} | {} |", row.name, port / rust, others.join(", "))
+}
