@@ -3,7 +3,7 @@
 // and begins 43 05, the bytes from 4 are payload. The first bad line ends it. The payload is never longer than the element."
 // A host that wants no copy steps over the lines, and takes each one's part of the element.
 ghost use mathlib.Core.Path.{_≡_};
-ghost use Prim.Native.Nat.{_+_, _≤_, _<_, min};
+ghost use Prim.Native.Nat.{_+_, _≤_, _<_};
 ghost use lib.ListN.{length, take, drop};
 ghost use Rattle.text.specs.Write.{Put};
 ghost use Rattle.st436.specs.Lines.{lineCount, ofBytes, cutTo, payloadLength, arrayCount, lineAt, lineStep};
@@ -24,13 +24,6 @@ impl Line {
     {
         parts::part(s, self.at, self.len)
     }
-}
-
-// The smaller of two.
-fn lesser(a: usize, b: usize) -> usize
-    ensures { λ r. ⌜ r ≡ min a b ⌝ }
-{
-    if a <= b { a } else { b }
 }
 
 // How many lines an element says that it has.
@@ -59,7 +52,7 @@ fn payload_length(s: &[u8], at: usize, count: usize) -> usize
     requires { ⌜ (at + 14 + count ≤ length (now s)) × (count ≡ arrayCount (now s) at) ⌝ }
     ensures { λ r. ⌜ r ≡ payloadLength (now (s .entry)) at ⌝ }
 {
-    let cut = lesser(number_at(s, at + 4, 2) as usize, count);
+    let cut = parts::lesser(number_at(s, at + 4, 2) as usize, count);
     if cut < 4 {
         return 0;
     }
