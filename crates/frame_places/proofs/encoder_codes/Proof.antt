@@ -31,9 +31,14 @@ returns c =
     let c3 = c4 .before in
     let c2 = c3 .before in
     let c1 = c2 .before in
-    rw
-    (c1 .whole64-code .ensures, c2 .whole64-code2 .ensures, c3 .whole64-code3 .ensures, c4 .whole64-code4 .ensures,
-    c5 .whole64-code5 .ensures, c .whole64-code6 .ensures)
+    rw (
+      c1 .whole64-code .ensures,
+      c2 .whole64-code2 .ensures,
+      c3 .whole64-code3 .ensures,
+      c4 .whole64-code4 .ensures,
+      c5 .whole64-code5 .ensures,
+      c .whole64-code6 .ensures,
+    )
     refl
 
 pub encoder-codes-spec : {M : Type 1} → statement M

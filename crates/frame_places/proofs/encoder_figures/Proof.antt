@@ -31,9 +31,14 @@ returns c =
     let c3 = c4 .before in
     let c2 = c3 .before in
     let c1 = c2 .before in
-    rw
-    (c1 .whole64-figure .ensures, c2 .whole64-figure2 .ensures, c3 .whole64-figure3 .ensures, c4 .whole64-figure4 .ensures,
-    c5 .whole64-figure5 .ensures, c .whole64-figure6 .ensures)
+    rw (
+      c1 .whole64-figure .ensures,
+      c2 .whole64-figure2 .ensures,
+      c3 .whole64-figure3 .ensures,
+      c4 .whole64-figure4 .ensures,
+      c5 .whole64-figure5 .ensures,
+      c .whole64-figure6 .ensures,
+    )
     refl
 
 pub encoder-figures-spec : {M : Type 1} → statement M

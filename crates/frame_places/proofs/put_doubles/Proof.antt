@@ -40,9 +40,16 @@ returns c =
     let c3 = c4 .before in
     let c2 = c3 .before in
     let c1 = c2 .before in
-    rw
-    (c1 .double-figure .ensures, c2 .double-figure2 .ensures, c3 .double-figure3 .ensures, c4 .red-figure .ensures,
-    c5 .green-figure .ensures, c6 .blue-figure .ensures, c7 .double-figure4 .ensures, c8 .double-figure5 .ensures)
+    rw (
+      c1 .double-figure .ensures,
+      c2 .double-figure2 .ensures,
+      c3 .double-figure3 .ensures,
+      c4 .red-figure .ensures,
+      c5 .green-figure .ensures,
+      c6 .blue-figure .ensures,
+      c7 .double-figure4 .ensures,
+      c8 .double-figure5 .ensures,
+    )
     refl
 
 pub put-doubles-spec : {M : Type 1} → statement M

@@ -64,11 +64,22 @@ returns c =
     let c3 = c4 .before in
     let c2 = c3 .before in
     let c1 = c2 .before in
-    rw
-    (c1 .encoder-codes .ensures, c2 .single-code .ensures, c3 .distance-code .ensures, c4 .t-stop-code .ensures,
-    c5 .double-code .ensures, c6 .single-code2 .ensures, c7 .tilt-roll-code .ensures, c8 .whole32-code .ensures,
-    c9 .whole32-code2 .ensures, c10 .double-code2 .ensures, c11 .double-code3 .ensures, c12 .factors-code .ensures,
-    c13 .double-code4 .ensures, c14 .double-code5 .ensures)
+    rw (
+      c1 .encoder-codes .ensures,
+      c2 .single-code .ensures,
+      c3 .distance-code .ensures,
+      c4 .t-stop-code .ensures,
+      c5 .double-code .ensures,
+      c6 .single-code2 .ensures,
+      c7 .tilt-roll-code .ensures,
+      c8 .whole32-code .ensures,
+      c9 .whole32-code2 .ensures,
+      c10 .double-code2 .ensures,
+      c11 .double-code3 .ensures,
+      c12 .factors-code .ensures,
+      c13 .double-code4 .ensures,
+      c14 .double-code5 .ensures,
+    )
     refl
 
 pub put-present-spec : {M : Type 1} → statement M

@@ -32,9 +32,14 @@ returns c =
     let c3 = c4 .before in
     let c2 = c3 .before in
     let c1 = c2 .before in
-    rw
-    (c1 .single-figure .ensures, c2 .distance-figure .ensures, c3 .t-stop-figure .ensures, c4 .single-figure2 .ensures,
-    c5 .tilt-figure .ensures, c6 .roll-figure .ensures)
+    rw (
+      c1 .single-figure .ensures,
+      c2 .distance-figure .ensures,
+      c3 .t-stop-figure .ensures,
+      c4 .single-figure2 .ensures,
+      c5 .tilt-figure .ensures,
+      c6 .roll-figure .ensures,
+    )
     refl
 
 pub put-singles-spec : {M : Type 1} → statement M

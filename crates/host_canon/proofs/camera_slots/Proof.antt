@@ -31,9 +31,14 @@ returns c =
     let c3 = c4 .before in
     let c2 = c3 .before in
     let c1 = c2 .before in
-    rw
-    (c1 .lens-slots .ensures, c2 .modes-slots .ensures, c3 .shutter-slots .ensures, c4 .balance-slots .ensures,
-    c5 .gain-slots .ensures, c .ranges-slots .ensures)
+    rw (
+      c1 .lens-slots .ensures,
+      c2 .modes-slots .ensures,
+      c3 .shutter-slots .ensures,
+      c4 .balance-slots .ensures,
+      c5 .gain-slots .ensures,
+      c .ranges-slots .ensures,
+    )
     refl
 
 pub camera-slots-spec : {M : Type 1} → statement M

@@ -39,9 +39,16 @@ returns c =
     let c3 = c4 .before in
     let c2 = c3 .before in
     let c1 = c2 .before in
-    rw
-    (c1 .slot-of .ensures, c2 .slot-of2 .ensures, c3 .slot-of3 .ensures, c4 .slot-of4 .ensures,
-    c5 .slot-of5 .ensures, c6 .slot-of6 .ensures, c7 .slot-of7 .ensures, c .slot-of8 .ensures)
+    rw (
+      c1 .slot-of .ensures,
+      c2 .slot-of2 .ensures,
+      c3 .slot-of3 .ensures,
+      c4 .slot-of4 .ensures,
+      c5 .slot-of5 .ensures,
+      c6 .slot-of6 .ensures,
+      c7 .slot-of7 .ensures,
+      c .slot-of8 .ensures,
+    )
     refl
 
 pub lens-slots-spec : {M : Type 1} → statement M

@@ -48,10 +48,18 @@ returns c =
     let c3 = c4 .before in
     let c2 = c3 .before in
     let c1 = c2 .before in
-    rw
-    (c1 .area-figures .ensures, c2 .area-figures2 .ensures, c3 .whole-figure .ensures, c4 .whole-figure2 .ensures,
-    c5 .whole-figure3 .ensures, c6 .whole-figure4 .ensures, c7 .whole-figure5 .ensures, c8 .whole-figure6 .ensures,
-    c9 .whole-figure7 .ensures, c10 .whole-figure8 .ensures)
+    rw (
+      c1 .area-figures .ensures,
+      c2 .area-figures2 .ensures,
+      c3 .whole-figure .ensures,
+      c4 .whole-figure2 .ensures,
+      c5 .whole-figure3 .ensures,
+      c6 .whole-figure4 .ensures,
+      c7 .whole-figure5 .ensures,
+      c8 .whole-figure6 .ensures,
+      c9 .whole-figure7 .ensures,
+      c10 .whole-figure8 .ensures,
+    )
     refl
 
 pub put-figures-spec : {M : Type 1} → statement M

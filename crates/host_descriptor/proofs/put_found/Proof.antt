@@ -48,10 +48,18 @@ returns c =
     let c3 = c4 .before in
     let c2 = c3 .before in
     let c1 = c2 .before in
-    rw
-    (c1 .area-found .ensures, c2 .area-found2 .ensures, c3 .whole-found .ensures, c4 .whole-found2 .ensures,
-    c5 .whole-found3 .ensures, c6 .whole-found4 .ensures, c7 .whole-found5 .ensures, c8 .whole-found6 .ensures,
-    c9 .whole-found7 .ensures, c10 .whole-found8 .ensures)
+    rw (
+      c1 .area-found .ensures,
+      c2 .area-found2 .ensures,
+      c3 .whole-found .ensures,
+      c4 .whole-found2 .ensures,
+      c5 .whole-found3 .ensures,
+      c6 .whole-found4 .ensures,
+      c7 .whole-found5 .ensures,
+      c8 .whole-found6 .ensures,
+      c9 .whole-found7 .ensures,
+      c10 .whole-found8 .ensures,
+    )
     refl
 
 pub put-found-spec : {M : Type 1} → statement M

@@ -42,10 +42,13 @@ returns c =
     let timecode = c6 .position-figure in
     let position = c7 .position-figure2 in
     let timecode-is = toZ-ofZ w64 (timecode .result) (record { sfits = timecode .ok }) ∙ timecode .ensures in
-    let position-is = toZ-ofZ w64 (position .result) (record { sfits = position .ok }) ∙ position .ensures in
-    (refl,
-    (rw (sym (read .ensures), c2 .spot-of .ensures, c3 .spot-of2 .ensures, c4 .position-found .ensures, c5 .position-found2 .ensures) refl,
-    rw (sym (read .ensures)) (λ i. timecode-is i ∷ position-is i ∷ [])))
+    let position-is = toZ-ofZ w64 (position .result) (record { sfits = position .ok }) ∙ position .ensures in (
+      refl,
+      (
+        rw (sym (read .ensures), c2 .spot-of .ensures, c3 .spot-of2 .ensures, c4 .position-found .ensures, c5 .position-found2 .ensures) refl,
+        rw (sym (read .ensures)) (λ i. timecode-is i ∷ position-is i ∷ []),
+      ),
+    )
 
 pub brine-sequence-spec : {M : Type 1} → statement M
 brine-sequence-spec =
