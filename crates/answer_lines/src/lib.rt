@@ -1,5 +1,6 @@
 // Lines of cases, answered as they end: docs/CASES.md. Answers wait in lent room until they are much.
-use replies::answer;
+use case_lines::Case;
+use case_lines::Line;
 
 // Answers are written when more than this waits.
 pub const WAITS: usize = 32768;
@@ -17,6 +18,26 @@ fn flush(out: &[u8], at: usize, least: usize) -> usize {
     }
     io::write_all(1, parts::part(out, 0, at));
     0
+}
+
+// Puts the answer to a case over its bytes: the cameras' words come after the others.
+fn reply(c: Case, s: &[u8], out: &mut [u8], at: usize) -> usize {
+    let word = c.word;
+    if word <= case_lines::ITEMS {
+        return replies::reply(c, s, out, at);
+    }
+    camera_replies::reply(word, c.a as usize, s, out, at)
+}
+
+// Puts the answer to a line; half as many bytes as the longest line has characters are room for its own.
+fn answer(line: &[u8], out: &mut [u8], at: usize) -> usize {
+    let mut bytes = [0u8; 32768];
+    let l = case_lines::read(line, &mut bytes);
+    let Line::Is(c) = l else {
+        return text::put_byte(out, at, b'?');
+    };
+    let n = c.n;
+    reply(c, parts::part(&bytes, 0, n), out, at)
 }
 
 // The answer to a line, and its end.

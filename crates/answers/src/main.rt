@@ -1,7 +1,7 @@
 // Answers cases from standard input, a line for each: docs/CASES.md. A line that is no case is answered `?`, and so is one
 // of more than 65,535 characters.
 //
-// To add a word: its number and its fields in `case_lines`, its answer in `replies`.
+// To add a word: its number and its fields in `case_lines`, its answer in `replies` or `camera_replies`.
 use answer_lines::State;
 use answer_lines::finish;
 use answer_lines::take;
