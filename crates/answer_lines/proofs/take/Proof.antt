@@ -21,8 +21,8 @@ shared-slice-read-b c = search needs
 add-i : tie.Need-add-i Inv-loop μ-loop
 add-i c = search needs
 
-answer-line-requires : tie.Need-answer-line-requires Inv-loop μ-loop
-answer-line-requires c κs = search needs
+put-line-requires : tie.Need-put-line-requires Inv-loop μ-loop
+put-line-requires c κs = search needs
 
 loop-less : tie.Need-loop-less Inv-loop μ-loop
 loop-less c = search needs
@@ -57,7 +57,7 @@ take-spec =
     loop-holds
     shared-slice-read-b
     add-i
-    answer-line-requires
+    put-line-requires
     loop-less
     loop-again
     push-requires

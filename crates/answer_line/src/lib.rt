@@ -1,0 +1,46 @@
+// A line's answer: docs/CASES.md. It waits in lent room until there is much to write.
+use case_lines::Case;
+use case_lines::Line;
+
+// Answers are written when more than this waits.
+pub const WAITS: usize = 32768;
+
+// Writes what waits where it is much, and answers where the next answer goes.
+pub fn flush(out: &[u8], at: usize, least: usize) -> usize {
+    if at < least {
+        return at;
+    }
+    io::write_all(1, parts::part(out, 0, at));
+    0
+}
+
+// Puts the answer to a case over its bytes: the cameras' words come after the others.
+fn reply(c: Case, s: &[u8], out: &mut [u8], at: usize) -> usize {
+    let word = c.word;
+    if word <= case_lines::ITEMS {
+        return replies::reply(c, s, out, at);
+    }
+    camera_replies::reply(word, c.a as usize, s, out, at)
+}
+
+// Puts the answer to a line; half as many bytes as the longest line has characters are room for its own.
+fn answer(line: &[u8], out: &mut [u8], at: usize) -> usize {
+    let mut bytes = [0u8; 32768];
+    let l = case_lines::read(line, &mut bytes);
+    let Line::Is(c) = l else {
+        return text::put_byte(out, at, b'?');
+    };
+    let n = c.n;
+    reply(c, parts::part(&bytes, 0, n), out, at)
+}
+
+// The answer to a line, and its end.
+pub fn put_line(line: &[u8], len: usize, out: &mut [u8], at: usize) -> usize {
+    if line.len() < len {
+        let r = text::put_all(out, at, b"?\n");
+        return flush(out, r, WAITS);
+    }
+    let a = answer(parts::part(line, 0, len), out, at);
+    let b = text::put_byte(out, a, b'\n');
+    flush(out, b, WAITS)
+}
