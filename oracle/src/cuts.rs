@@ -1,4 +1,4 @@
-//! Cases from real files, torn and damaged: each cut of them, and each of some bytes changed.
+//! Cases from real files, torn and damaged: each cut of them, each end in their parts, and each of some bytes changed.
 
 use std::sync::Arc;
 
@@ -9,8 +9,8 @@ use crate::plain::finished;
 /// The bytes at a file's beginning that are changed, each in turn.
 const CHANGED: usize = 2000;
 
-/// The bytes of a damaged copy, at most.
-const COPY: usize = 4000;
+/// The bytes of a part with every end, and of a damaged copy, at most.
+const PART: usize = 4000;
 
 /// The lines of a word over every beginning of every window of a file, which arrives as the window's beginning.
 pub fn torn(word: &'static str, file: &[u8]) -> impl Iterator<Item = String> + Send + use<> {
@@ -18,11 +18,17 @@ pub fn torn(word: &'static str, file: &[u8]) -> impl Iterator<Item = String> + S
     windows.into_iter().flat_map(move |window| (0..=window.len()).map(move |count| beginning(word, &window, count).line()))
 }
 
+/// The lines of a word with every end in every part of a file; none of a word without an end.
+pub fn ended(word: &'static str, file: &[u8]) -> impl Iterator<Item = String> + Send + use<> {
+    let cases: Vec<Case> = file.chunks(PART).map(|part| case(word, part)).filter(|case| case.fields() == [Field::End]).collect();
+    cases.into_iter().flat_map(|case| (0..=case.bytes.len() as u64).map(move |end| Case { numbers: vec![end], ..case.clone() }.line()))
+}
+
 /// The lines of a word over every damaged copy of a file's parts.
 pub fn damaged(word: &'static str, file: &[u8]) -> impl Iterator<Item = String> + Send + use<> {
     let file: Arc<[u8]> = Arc::from(file);
     changed(&file).into_iter().flat_map(move |(from, place)| {
-        let copy = file[from..file.len().min(from + COPY)].to_vec();
+        let copy = file[from..file.len().min(from + PART)].to_vec();
         damages(copy[place - from]).into_iter().map(move |byte| {
             let mut copy = copy.clone();
             copy[place - from] = byte;
@@ -31,10 +37,11 @@ pub fn damaged(word: &'static str, file: &[u8]) -> impl Iterator<Item = String> 
     })
 }
 
-/// How many beginnings and how many damaged copies of a file there are.
-pub fn counted(file: &[u8]) -> (usize, usize) {
+/// How many beginnings, ends and damaged copies of a file there are.
+pub fn counted(file: &[u8]) -> [usize; 3] {
     let torn = windows(file).iter().map(|window| window.len() + 1).sum();
-    (torn, changed(file).iter().map(|(_, place)| damages(file[*place]).len()).sum())
+    let ended = file.chunks(PART).map(|part| part.len() + 1).sum();
+    [torn, ended, changed(file).iter().map(|(_, place)| damages(file[*place]).len()).sum()]
 }
 
 /// The case of a word over so many bytes of a window: the limit of what arrives is the window's own size.
@@ -93,9 +100,17 @@ mod tests {
         let file = PIECES[0];
         let cases: Vec<Case> = torn("walk", file).map(|line| parse(&line).unwrap()).collect();
         assert_eq!(cases.len(), file.len() + 1);
-        assert_eq!(counted(file), (cases.len(), damaged("walk", file).count()));
+        assert_eq!(counted(file), [cases.len(), ended("walk", file).count(), damaged("walk", file).count()]);
         assert!(cases.iter().enumerate().all(|(count, case)| case.bytes == file[..count] && case.numbers == [count as u64]));
         assert!(torn("arrive", file).all(|line| parse(&line).unwrap().numbers == [file.len() as u64]));
+    }
+
+    #[test]
+    fn every_end_of_every_part_is_there() {
+        let file = [6; PART + 2];
+        let ends: Vec<u64> = ended("sony", &file).map(|line| parse(&line).unwrap().numbers[0]).collect();
+        assert_eq!(ends, (0..=PART as u64).chain(0..=2).collect::<Vec<_>>());
+        assert_eq!(ended("arrive", &file).count() + ended("klvs", &file).count(), 0);
     }
 
     #[test]
@@ -111,7 +126,7 @@ mod tests {
     fn every_changed_byte_differs_in_its_copy() {
         let file = PIECES[4];
         for (from, place) in changed(file) {
-            assert!(from <= place && place < file.len().min(from + COPY));
+            assert!(from <= place && place < file.len().min(from + PART));
             assert!(damages(file[place]).iter().all(|byte| *byte != file[place]));
         }
         let sizes = [damages(0x00), damages(0x42), damages(0x80)].map(|bytes| bytes.len());

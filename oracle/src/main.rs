@@ -15,7 +15,7 @@ oracle cases WORDS COUNT SEED                    cases of each word
 oracle compare WORDS COUNT SEED --answers CMD    the port's answers beside the expected ones
 oracle files WORDS FOLDER --answers CMD          the same over the real files of a folder
 oracle every WORDS --answers CMD                 the same over every small case
-oracle cuts WORDS FOLDER --answers CMD           the same over the files at every cut, and damaged
+oracle cuts WORDS FOLDER --answers CMD           the same over them at every cut and end, and damaged
 oracle record WORDS COUNT SEED FOLDER            a sample, as FOLDER/stdin and FOLDER/stdout
 oracle arriving COUNT SEED                       the arriving walk beside all short extensions";
 
@@ -88,7 +88,7 @@ fn compare_files(words: &str, folder: &str, command: &str) -> Result<bool> {
 fn compare_every(words: &str, command: &str) -> Result<bool> {
     let port = port(command);
     let mut same = true;
-    for word in words_of(words)?.into_iter().filter(|word| every::WORDS.contains(word)) {
+    for word in words_of(words)? {
         let (buffers, cases) = every::counted(word);
         same &= report(&port, &format!("{word} {buffers} buffers {cases} cases"), || every::cases(word))?;
     }
@@ -101,8 +101,11 @@ fn compare_cuts(words: &str, folder: &str, command: &str) -> Result<bool> {
     for path in files::paths(Path::new(folder))? {
         let (file, name) = (std::fs::read(&path)?, path.file_name().unwrap_or_default().display());
         for word in words_of(words)?.into_iter().filter(|word| files::TAKING.contains(word)) {
-            let (torn, damaged) = cuts::counted(&file);
+            let [torn, ended, damaged] = cuts::counted(&file);
             same &= report(&port, &format!("{word} {name} {torn} cuts"), || cuts::torn(word, &file))?;
+            if cuts::ended(word, &file).next().is_some() {
+                same &= report(&port, &format!("{word} {name} {ended} ends"), || cuts::ended(word, &file))?;
+            }
             same &= report(&port, &format!("{word} {name} {damaged} damaged"), || cuts::damaged(word, &file))?;
         }
     }

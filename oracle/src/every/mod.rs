@@ -1,5 +1,6 @@
 //! Cases without a seed: every buffer of a small kind, with every number that may matter to it.
 
+mod arri;
 mod frames;
 mod pieces;
 mod tables;
@@ -9,12 +10,6 @@ use pieces::Buffers;
 
 use crate::line::Case;
 use crate::plain::{Length, length};
-
-/// The words that have such cases.
-pub const WORDS: [&str; 17] = [
-    "ber", "walk", "step", "klvs", "arrive", "tally", "items", "header", "primer", "set", "anc", "packs", "sequence", "package", "sony",
-    "arri", "canon",
-];
 
 /// The lines of every case of a word.
 pub fn cases(word: &'static str) -> impl Iterator<Item = String> + Send + 'static {
@@ -38,6 +33,9 @@ fn buffers(word: &str) -> Buffers {
         "items" => tables::items(),
         "header" => tables::headers(),
         "primer" => tables::primers(),
+        "dynamic" => arri::elements(),
+        "ofdynamic" => arri::blocks(),
+        "alexa" => arri::alexa(),
         "set" => tables::sets(),
         "anc" => tables::ancillary(),
         "packs" => tables::packs(),
@@ -89,12 +87,12 @@ fn limits(bytes: &[u8]) -> Vec<u64> {
 #[cfg(test)]
 mod tests {
     use super::*;
-    use crate::line::parse;
+    use crate::line::{WORDS, parse};
 
     #[test]
     fn every_line_is_a_case() {
-        for word in WORDS {
-            for line in cases(word).step_by(997).take(5000) {
+        for (word, _) in WORDS {
+            for line in cases(word).step_by(997).take(2000) {
                 assert!(parse(&line).is_some_and(|case| case.word == word), "{line}");
             }
         }
@@ -107,6 +105,10 @@ mod tests {
         assert_eq!(counted("arri").0, up_to_5(12));
         assert_eq!(counted("canon").0, up_to_5(12));
         assert_eq!(counted("items"), (counted("items").0, 2 * counted("items").0));
+        assert_eq!(
+            counted("tally").0,
+            (0..=7).map(|count| 8u64.pow(count)).sum::<u64>() + (4..=7).map(|count| 8u64.pow(count)).sum::<u64>()
+        );
         assert_eq!(counted("set").0, counted("set").1);
     }
 

@@ -1,11 +1,12 @@
 //! Every buffer of `items`, `header`, `primer`, `set`, `anc`, `packs`, `sequence` and `package`.
 
+use super::arri::numbers;
 use super::pieces::{Alphabet, Buffers, cut, hex, one_of_each, sequences};
 
 /// Local items: tags and lengths of both codings, and zeros with which a length of 8 bytes is whole.
 pub fn items() -> Buffers {
     let all = sequences(hex("00 01 02 80 81 82 88 89 ff 00000000000000"), 0..=6);
-    Box::new(all.chain(sequences(hex("00 01 02 81"), 7..=10)))
+    Box::new(all.chain(sequences(hex("00 01 02 81"), 7..=11)))
 }
 
 /// Header partition packs with counts on both sides of what follows them, cut at every place.
@@ -84,10 +85,9 @@ fn lines(samples: &str, counts: &str) -> Alphabet {
 
 /// Private Camera Metadata: of each pack every number in either half, and two packs of a few numbers cut at every place.
 pub fn packs() -> Buffers {
-    let numbers = || (0..=0xffffu16).map(|number| number.to_be_bytes().to_vec()).collect::<Alphabet>();
     let ids = || (0..=21).map(|id| vec![id]).collect::<Alphabet>();
-    let first = one_of_each(vec![hex("01"), ids(), numbers(), hex("0001 ffff")]);
-    let last = one_of_each(vec![hex("01"), ids(), hex("0000 0002"), numbers()]);
+    let first = one_of_each(vec![hex("01"), ids(), numbers(), hex("0000 0001 8000 ffff")]);
+    let last = one_of_each(vec![hex("01"), ids(), hex("0000 0002 7fff fffe"), numbers()]);
     let some: Alphabet = one_of_each(vec![ids(), hex("00000000 ffffffff 40004001 c0ff7fff 20803001 fffefffe")]).collect();
     let two = cut(one_of_each(vec![hex("00 01 02 03 ff"), some.clone(), some]));
     Box::new(first.chain(last).chain(two))
