@@ -16,14 +16,17 @@ const ARRI: &str = "060e2b34024301010d01030104010301 060e2b340243010f0d010301040
 const CANON: &str = "060e2b34024301010d01030104010203 060e2b340101010d0e15000000010000 060e2b34010201010d01030117010201 \
     1a880017060e2b340101010d0e1500010001000006011300000001 0c150100080000000000000001";
 
+/// ST 436 elements among others.
 pub fn sony() -> Buffers {
     Box::new(sequences(with_others(SONY), 0..=5))
 }
 
+/// ARRI's elements among others, short ones.
 pub fn arri() -> Buffers {
     Box::new(sequences(with_others(ARRI), 0..=5))
 }
 
+/// Canon's values and ST 436 elements among others.
 pub fn canon() -> Buffers {
     Box::new(sequences(with_others(CANON), 0..=5))
 }

@@ -88,6 +88,7 @@ fn bytes(all: impl IntoIterator<Item = u8>) -> Alphabet {
     all.into_iter().map(|byte| vec![byte]).collect()
 }
 
+/// Bytes and more after them.
 fn joined(some: &[u8], more: &[u8]) -> Vec<u8> {
     [some, more].concat()
 }
