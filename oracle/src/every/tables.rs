@@ -66,19 +66,21 @@ fn valued(tags: &str, lengths: &[u16]) -> Alphabet {
 /// ST 436 elements: one line of every kind cut at every place, two lines of many kinds, and two of a few cut at every place.
 pub fn ancillary() -> Buffers {
     let counts = || hex("0000 0001 0002 0003 ffff");
-    let every = lines("0000 0003 0004 0005 0006 0007 ffff", "00000000 00000001 00000003 00000004 00000005 00000006 00000007 ffffffff");
-    let many = lines("0000 0004 0005 0006 ffff", "00000000 00000004 00000005 00000006");
-    let few = lines("0004 0006", "00000000 00000005 00000006");
+    let every = lines("0000 0003 0004 0005 0006 0007 ffff", "00000000 00000001 00000003 00000004 00000005 00000006 00000007 ffffffff", 1);
+    let many = |payload| lines("0000 0004 0005 0006 ffff", "00000000 00000004 00000005 00000006", payload);
+    let few = |payload| lines("0004 0006", "00000000 00000005 00000006", payload);
     let one = cut(one_of_each(vec![counts(), every]));
-    let two = one_of_each(vec![counts(), many.clone(), many]);
-    let broken = cut(one_of_each(vec![hex("0001 0002"), few.clone(), few]));
+    let two = one_of_each(vec![counts(), many(1), many(3)]);
+    let broken = cut(one_of_each(vec![hex("0001 0002"), few(1), few(3)]));
     Box::new(one.chain(two).chain(broken))
 }
 
-/// Lines with each of some sample counts and array counts, with arrays of 0 to 6 bytes that begin as they are to or not.
-fn lines(samples: &str, counts: &str) -> Alphabet {
-    let mut arrays: Alphabet = (0..=6).map(|count| [0x43, 0x05, 1, 2, 3, 4][..count].to_vec()).collect();
-    arrays.extend(hex("430601020304 440501020304"));
+/// Lines with each of some sample counts and array counts, with arrays of 0 to 6 bytes that begin as they are to or not and
+/// a payload that rises from a byte.
+fn lines(samples: &str, counts: &str, payload: u8) -> Alphabet {
+    let begun = |first: u8, second: u8| vec![first, second, 0x53, 0x48, payload, payload + 1];
+    let mut arrays: Alphabet = (0..=6).map(|count| begun(0x43, 0x05)[..count].to_vec()).collect();
+    arrays.extend([begun(0x43, 0x06), begun(0x44, 0x05)]);
     let lengths = hex("00000000 00000001 00000002 01000000");
     one_of_each(vec![hex("00130401"), hex(samples), hex(counts), lengths, arrays]).collect()
 }
@@ -101,7 +103,7 @@ pub fn packages() -> Buffers {
     let outer: Alphabet = runs().flat_map(|run| [0x88, 0x87].into_iter().flat_map(move |tag| wrapped(tag, &run))).collect();
     let two = sequences(outer.clone(), 2..=2);
     let inner = sequences(private_metadata(), 2..=2).flat_map(|run| wrapped(0x88, &run));
-    Box::new(sequences(hex(PIECES), 0..=6).chain(cut(outer.into_iter())).chain(two).chain(inner))
+    Box::new(sequences(hex(PIECES), 0..=6).chain(cut(outer.into_iter())).chain(two).chain(cut(inner)))
 }
 
 /// Items of a tag around a run, with its length and with those on both sides of it.

@@ -40,7 +40,8 @@ pub fn stepped() -> Buffers {
 
 /// Runs, whole and broken off.
 pub fn runs() -> Buffers {
-    Box::new(sequences(hex(RUN), 0..=6).chain(valued()))
+    let records = sequences(hex("aaaaaaaaaaaaaaaaaaaaaaaaaaaaaaaa 00 02 81"), 7..=10);
+    Box::new(sequences(hex(RUN), 0..=6).chain(records).chain(valued()))
 }
 
 /// What may arrive.
