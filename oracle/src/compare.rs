@@ -1,4 +1,4 @@
-//! The port's answers beside the expected ones, over cases drawn from a seed.
+//! The port's answers beside the expected ones, over cases drawn from a seed or listed.
 
 use std::collections::BTreeMap;
 use std::io::{BufRead, BufReader, BufWriter, Error, Result, Write};
@@ -6,7 +6,6 @@ use std::process::{Child, Command, Stdio};
 use std::thread::JoinHandle;
 use std::time::Instant;
 
-use crate::cases::case;
 use crate::known::expected;
 use crate::shrink::smallest;
 
@@ -54,14 +53,12 @@ fn text(line: Vec<u8>) -> String {
     String::from_utf8_lossy(&line).into_owned()
 }
 
-/// Compares so many cases of a word at a seed.
-pub fn compare(port: &Port, word: &str, count: u64, seed: u64) -> Result<Outcome> {
-    let name = word.to_string();
-    let (mut child, feeder) = port.start((0..count).map(move |index| case(&name, seed, index)))?;
+/// Compares cases, which are listed twice: for the port and for the oracle.
+pub fn compare<L: Iterator<Item = String> + Send + 'static>(port: &Port, cases: impl Fn() -> L) -> Result<Outcome> {
+    let (mut child, feeder) = port.start(cases())?;
     let mut answers = BufReader::with_capacity(1 << 16, child.stdout.take().expect("a pipe")).split(b'\n');
     let mut known = BTreeMap::new();
-    for index in 0..count {
-        let line = case(word, seed, index);
+    for (index, line) in cases().enumerate() {
         let (right, difference) = expected(&line);
         let answer = answers.next().transpose()?;
         if answer.as_deref() != Some(right.as_bytes()) {
@@ -69,7 +66,7 @@ pub fn compare(port: &Port, word: &str, count: u64, seed: u64) -> Result<Outcome
             child.kill()?;
             child.wait()?;
             feeder.join().expect("a feeder that ends");
-            return Ok(Outcome::Differs(index, line));
+            return Ok(Outcome::Differs(index as u64, line));
         }
         if let Some(difference) = difference {
             *known.entry(difference.name).or_default() += 1;
@@ -93,16 +90,16 @@ fn first_difference(port: &Port, lines: &[String]) -> Option<usize> {
 }
 
 /// Compares, says what was found in one line or shows the smallest difference, and answers whether there was none.
-pub fn report(port: &Port, word: &str, count: u64, seed: u64) -> Result<bool> {
+pub fn report<L: Iterator<Item = String> + Send + 'static>(port: &Port, title: &str, cases: impl Fn() -> L) -> Result<bool> {
     let started = Instant::now();
-    match compare(port, word, count, seed)? {
+    match compare(port, cases)? {
         Outcome::Same(known) => {
             let notes: String = known.iter().map(|(name, cases)| format!(", {cases} known as {name}")).collect();
-            println!("{word} {count} {seed} no difference{notes} {:.1} s", started.elapsed().as_secs_f64());
+            println!("{title} no difference{notes} {:.1} s", started.elapsed().as_secs_f64());
             Ok(true)
         }
         Outcome::Differs(index, line) => {
-            println!("{word} {count} {seed} differs at case {index}");
+            println!("{title} differs at case {index}");
             show(port, &smallest(&line, |lines| first_difference(port, lines)))?;
             Ok(false)
         }
@@ -135,6 +132,7 @@ fn show(port: &Port, line: &str) -> Result<()> {
 #[cfg(test)]
 mod tests {
     use super::*;
+    use crate::cases::drawn;
 
     /// A port that answers every case alike.
     fn constant(answer: &str) -> Port {
@@ -143,7 +141,7 @@ mod tests {
 
     #[test]
     fn a_constant_answer_is_found_out() {
-        assert!(matches!(compare(&constant("cut"), "ber", 100, 1).unwrap(), Outcome::Differs(..)));
+        assert!(matches!(compare(&constant("cut"), || drawn("ber", 100, 1)).unwrap(), Outcome::Differs(..)));
     }
 
     #[test]
@@ -156,13 +154,13 @@ mod tests {
     #[test]
     fn a_port_that_answers_too_much_is_found_out() {
         let port = Port(vec!["echo".into(), "?".into()]);
-        assert!(compare(&port, "klvs", 0, 1).is_err());
-        assert!(compare(&Port(vec!["false".into()]), "klvs", 0, 1).is_err());
+        assert!(compare(&port, || drawn("klvs", 0, 1)).is_err());
+        assert!(compare(&Port(vec!["false".into()]), || drawn("klvs", 0, 1)).is_err());
     }
 
     #[test]
     fn a_port_that_ends_early_differs() {
         let port = Port(vec!["true".into()]);
-        assert!(matches!(compare(&port, "klvs", 10, 1).unwrap(), Outcome::Differs(0, _)));
+        assert!(matches!(compare(&port, || drawn("klvs", 10, 1)).unwrap(), Outcome::Differs(0, _)));
     }
 }

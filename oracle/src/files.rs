@@ -1,33 +1,38 @@
 //! Cases from real files: each whole where a line holds it, and in torn parts.
 
 use std::io::Result;
-use std::path::Path;
+use std::path::{Path, PathBuf};
 
 use crate::cases::random::Random;
 use crate::line::{Case, Field, LONGEST, WORDS};
 
 /// The words that take any part of a file.
-const TAKING: [&str; 8] = ["walk", "klvs", "arrive", "tally", "header", "sony", "arri", "canon"];
+pub const TAKING: [&str; 8] = ["walk", "klvs", "arrive", "tally", "header", "sony", "arri", "canon"];
 
 /// The most bytes of a case, so that its line is none that is too long.
-const MOST: usize = (LONGEST - 40) / 2;
+pub const MOST: usize = (LONGEST - 40) / 2;
 
 /// The torn parts of each file.
 const TORN: usize = 40;
 
 /// The cases of some words from the files of a folder whose names end in `.mxf`.
 pub fn cases(folder: &Path, words: &[&str]) -> Result<Vec<String>> {
-    let mut paths: Vec<_> = std::fs::read_dir(folder)?.map(|entry| entry.map(|entry| entry.path())).collect::<Result<_>>()?;
-    paths.retain(|path| path.extension().is_some_and(|extension| extension == "mxf"));
-    paths.sort();
     let mut lines = Vec::new();
-    for path in paths {
+    for path in paths(folder)? {
         let bytes = std::fs::read(path)?;
         for part in parts(&bytes) {
             lines.extend(words.iter().filter(|word| TAKING.contains(word)).map(|word| case(word, part).line()));
         }
     }
     Ok(lines)
+}
+
+/// The paths of a folder's files whose names end in `.mxf`, in order.
+pub fn paths(folder: &Path) -> Result<Vec<PathBuf>> {
+    let mut paths: Vec<_> = std::fs::read_dir(folder)?.map(|entry| entry.map(|entry| entry.path())).collect::<Result<_>>()?;
+    paths.retain(|path| path.extension().is_some_and(|extension| extension == "mxf"));
+    paths.sort();
+    Ok(paths)
 }
 
 /// A file's parts: those that together are the whole, and torn ones.
@@ -43,7 +48,7 @@ fn parts(bytes: &[u8]) -> Vec<&[u8]> {
 }
 
 /// The case of a word over all of a part.
-fn case(word: &str, part: &[u8]) -> Case {
+pub fn case(word: &str, part: &[u8]) -> Case {
     let (word, fields) = WORDS.iter().find(|(name, _)| *name == word).expect("a word");
     let number = |field: &Field| part.len() as u64 * if *field == Field::Number { 2 } else { 1 };
     Case { word, numbers: fields.iter().map(number).collect(), bytes: part.to_vec() }

@@ -77,6 +77,8 @@ pub mod answer;
 pub mod arriving;
 pub mod cases;
 pub mod compare;
+pub mod cuts;
+pub mod every;
 pub mod files;
 pub mod known;
 pub mod line;

@@ -6,7 +6,7 @@ use std::process::exit;
 
 use oracle::compare::{Port, report, report_lines};
 use oracle::line::WORDS;
-use oracle::{answer, arriving, cases, files, known, record};
+use oracle::{answer, arriving, cases, cuts, every, files, known, record};
 
 const USAGE: &str = "\
 oracle answer                                    the Rust's answer for each line of the standard input
@@ -14,6 +14,8 @@ oracle expected                                  the same, with document 01's wh
 oracle cases WORDS COUNT SEED                    cases of each word
 oracle compare WORDS COUNT SEED --answers CMD    the port's answers beside the expected ones
 oracle files WORDS FOLDER --answers CMD          the same over the real files of a folder
+oracle every WORDS --answers CMD                 the same over every small case
+oracle cuts WORDS FOLDER --answers CMD           the same over them at every cut and end, and damaged
 oracle record WORDS COUNT SEED FOLDER            a sample, as FOLDER/stdin and FOLDER/stdout
 oracle arriving COUNT SEED                       the arriving walk beside all short extensions";
 
@@ -26,6 +28,8 @@ fn main() {
         ["cases", words, count, seed] => print_cases(words, number(count), number(seed)),
         ["compare", words, count, seed, "--answers", command] => compare(words, number(count), number(seed), command),
         ["files", words, folder, "--answers", command] => compare_files(words, folder, command),
+        ["every", words, "--answers", command] => compare_every(words, command),
+        ["cuts", words, folder, "--answers", command] => compare_cuts(words, folder, command),
         ["record", words, count, seed, folder] => write_sample(words, number(count), number(seed), folder),
         ["arriving", count, seed] => arriving_beside_extensions(number(count), number(seed)),
         _ => usage(),
@@ -72,13 +76,40 @@ fn compare(words: &str, count: u64, seed: u64, command: &str) -> Result<bool> {
     let port = port(command);
     let mut same = true;
     for word in words_of(words)? {
-        same &= report(&port, word, count, seed)?;
+        same &= report(&port, &format!("{word} {count} {seed}"), || cases::drawn(word, count, seed))?;
     }
     Ok(same)
 }
 
 fn compare_files(words: &str, folder: &str, command: &str) -> Result<bool> {
     report_lines(&port(command), &files::cases(Path::new(folder), &words_of(words)?)?)
+}
+
+fn compare_every(words: &str, command: &str) -> Result<bool> {
+    let port = port(command);
+    let mut same = true;
+    for word in words_of(words)? {
+        let (buffers, cases) = every::counted(word);
+        same &= report(&port, &format!("{word} {buffers} buffers {cases} cases"), || every::cases(word))?;
+    }
+    Ok(same)
+}
+
+fn compare_cuts(words: &str, folder: &str, command: &str) -> Result<bool> {
+    let port = port(command);
+    let mut same = true;
+    for path in files::paths(Path::new(folder))? {
+        let (file, name) = (std::fs::read(&path)?, path.file_name().unwrap_or_default().display());
+        for word in words_of(words)?.into_iter().filter(|word| files::TAKING.contains(word)) {
+            let [torn, ended, damaged] = cuts::counted(&file);
+            same &= report(&port, &format!("{word} {name} {torn} cuts"), || cuts::torn(word, &file))?;
+            if cuts::ended(word, &file).next().is_some() {
+                same &= report(&port, &format!("{word} {name} {ended} ends"), || cuts::ended(word, &file))?;
+            }
+            same &= report(&port, &format!("{word} {name} {damaged} damaged"), || cuts::damaged(word, &file))?;
+        }
+    }
+    Ok(same)
 }
 
 /// The words that a list names, with commas or spaces between them.

@@ -15,15 +15,20 @@ use crate::line::{Case, LONGEST, WORDS};
 /// The line of the case of a word at a seed and an index.
 pub fn case(word: &str, seed: u64, index: u64) -> String {
     let mut random = Random::of(word, seed, index);
-    let (numbers, bytes) = drawn(word, &mut random);
+    let (numbers, bytes) = numbers_and_bytes(word, &mut random);
     let word = WORDS.iter().find(|(name, _)| *name == word).expect("a word").0;
     let line = with_n(&mut random, Case { word, numbers, bytes });
     assert!(line.len() <= LONGEST, "a line that is too long");
     line
 }
 
+/// The lines of so many cases of a word at a seed.
+pub fn drawn(word: &'static str, count: u64, seed: u64) -> impl Iterator<Item = String> + Send + 'static {
+    (0..count).map(move |index| case(word, seed, index))
+}
+
 /// The numbers and bytes of a case.
-fn drawn(word: &str, random: &mut Random) -> (Vec<u64>, Vec<u8>) {
+fn numbers_and_bytes(word: &str, random: &mut Random) -> (Vec<u64>, Vec<u8>) {
     match word {
         "ber" => (vec![], walk::ber(random)),
         "walk" => walk::walk(random),
