@@ -14,8 +14,8 @@ oracle expected                                  the same, with document 01's wh
 oracle cases WORDS COUNT SEED                    cases of each word
 oracle compare WORDS COUNT SEED --answers CMD    the port's answers beside the expected ones
 oracle files WORDS FOLDER --answers CMD          the same over the real files of a folder
+oracle cuts WORDS FOLDER --answers CMD           the same over these files at every cut and end, and damaged
 oracle every WORDS --answers CMD                 the same over every small case
-oracle cuts WORDS FOLDER --answers CMD           the same over them at every cut and end, and damaged
 oracle record WORDS COUNT SEED FOLDER            a sample, as FOLDER/stdin and FOLDER/stdout
 oracle arriving COUNT SEED                       the arriving walk beside all short extensions";
 

@@ -31,7 +31,7 @@ pub fn primers() -> Buffers {
     Box::new(cut(packs).chain(sequences(hex("00 01 12"), 0..=13)))
 }
 
-/// Descriptor sets: short buffers, every pair of items, three rates in turn, and pairs cut at every place.
+/// Descriptor sets: short buffers, every pair of items, three and four rates in turn, and pairs cut at every place.
 pub fn sets() -> Buffers {
     const TAGS: &str = "0202 1502 1501 1503 3001 3002 3202 3203 3204 3205 3206 3207 3208 3209 320a 320b 320e 3306 3200";
     let short = sequences(hex("00 01 02 30 32"), 0..=9);
