@@ -1,18 +1,8 @@
 // A line's answer: docs/CASES.md. It waits in lent room until there is much to write.
 use case_lines::Case;
 use case_lines::Line;
-
-// Answers are written when more than this waits.
-pub const WAITS: usize = 32768;
-
-// Writes what waits where it is much, and answers where the next answer goes.
-pub fn flush(out: &[u8], at: usize, least: usize) -> usize {
-    if at < least {
-        return at;
-    }
-    io::write_all(1, parts::part(out, 0, at));
-    0
-}
+use lines::WAITS;
+use lines::flush;
 
 // Puts the answer to a case over its bytes: the cameras' words come after the others.
 fn reply(c: Case, s: &[u8], out: &mut [u8], at: usize) -> usize {

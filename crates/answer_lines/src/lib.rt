@@ -1,20 +1,12 @@
 // Lines of cases, answered as they end: docs/CASES.md.
-use answer_line::flush;
 use answer_line::put_line;
+use lines::flush;
+use lines::push;
 
 // What was read of a line, one more than its room where it is too long, and the place in the output.
 struct State {
     len: usize,
     at: usize,
-}
-
-// A byte more of a line.
-fn push(line: &mut [u8], len: usize, b: u8) -> usize {
-    if len < line.len() {
-        line[len] = b;
-        return len + 1;
-    }
-    line.len() + 1
 }
 
 // Answers the lines that end in a chunk of the input.

@@ -3,17 +3,8 @@
 //
 // To add a word: its number and its fields in `case_lines`, its answer in `replies` or `camera_replies`.
 use answer_lines::serve;
-
-// The longest line, without its end.
-fn line_room() -> [u8; 65535] {
-    [0; 65535]
-}
-
-// Room for what waits to be written, up to `answer_line::WAITS` bytes, and one more answer. The longest answer to a line
-// of 65,535 characters takes less than the rest.
-fn out_room() -> [u8; 524288] {
-    [0; 524288]
-}
+use lines::line_room;
+use lines::out_room;
 
 fn main() {
     let mut chunk = io::large_buffer();

@@ -1,4 +1,5 @@
 // The first half of a camera's members as text, in the order of their names' bytes: docs/CASES.md.
+use canon_groups::Lens;
 use canon_packs::Camera;
 use canon_text::put_member;
 
@@ -34,8 +35,7 @@ fn put_second(out: &mut [u8], at: usize, c: Camera) -> usize {
 }
 
 // Puts the members from F_Number to Focal_Length_No35Conv.
-fn put_third(out: &mut [u8], at: usize, c: Camera) -> usize {
-    let lens = c.lens;
+fn put_third(out: &mut [u8], at: usize, lens: Lens) -> usize {
     let w = lens.f_number;
     let x = lens.focal_length;
     let y = lens.focal_length_35;
@@ -60,10 +60,11 @@ fn put_fourth(out: &mut [u8], at: usize, c: Camera) -> usize {
     put_member(out, d, b"HighSensitivityMode", z)
 }
 
-// Puts a camera's first members, up to Gain_Mode.
+// Puts a camera's first members, up to HighSensitivityMode.
 pub fn put_half(out: &mut [u8], at: usize, c: Camera) -> usize {
     let a = put_first(out, at, c);
     let b = put_second(out, a, c);
-    let d = put_third(out, b, c);
+    let lens = c.lens;
+    let d = put_third(out, b, lens);
     put_fourth(out, d, c)
 }

@@ -1,7 +1,9 @@
 // A camera's members as text, in the order of their names' bytes: docs/CASES.md.
 use camera_half_text::put_half;
+use canon_groups::Balance;
 use canon_packs::Camera;
 use canon_text::put_member;
+use canon_values::Value;
 
 // Puts the members from IR_Status to Image_Stabilizer.
 fn put_fifth(out: &mut [u8], at: usize, c: Camera) -> usize {
@@ -49,13 +51,10 @@ fn put_seventh(out: &mut [u8], at: usize, c: Camera) -> usize {
 }
 
 // Puts the members from VFX_Tilt to WB_Preset.
-fn put_eighth(out: &mut [u8], at: usize, c: Camera) -> usize {
-    let balance = c.balance;
-    let ranges = c.ranges;
-    let w = ranges.tilt;
+fn put_eighth(out: &mut [u8], at: usize, tilt: Value, balance: Balance) -> usize {
     let x = balance.mode;
     let y = balance.preset;
-    let a = put_member(out, at, b"VFX_Tilt", w);
+    let a = put_member(out, at, b"VFX_Tilt", tilt);
     let b = put_member(out, a, b"WB_Mode", x);
     put_member(out, b, b"WB_Preset", y)
 }
@@ -66,5 +65,8 @@ pub fn put_camera(out: &mut [u8], at: usize, c: Camera) -> usize {
     let b = put_fifth(out, a, c);
     let d = put_sixth(out, b, c);
     let e = put_seventh(out, d, c);
-    put_eighth(out, e, c)
+    let ranges = c.ranges;
+    let tilt = ranges.tilt;
+    let balance = c.balance;
+    put_eighth(out, e, tilt, balance)
 }
