@@ -1,29 +1,29 @@
 // The answers to `packs HEX`, `package HEX` and `sequence HEX`: docs/CASES.md.
 use camera_text::put_camera;
+use canon_places::twos;
 use canon_sequence::Identifier;
 use canon_sequence::Position;
 use canon_sets::Metadata;
 use canon_sets::Package;
-use canon_text::put_signed;
+use figure_text::put_twos;
 use klv_text::put_bytes;
 use text::put_all;
 use text::put_byte;
 
-// Puts the members of a Private Camera Metadata.
-pub fn packs(out: &mut [u8], at: usize, s: &[u8]) -> usize {
-    put_camera(out, at, canon_packs::read(s))
-}
-
-// Puts a Private Camera Metadata: `[HEX]` and its members.
-fn put_metadata(out: &mut [u8], at: usize, s: &[u8]) -> usize {
+// Puts a Private Camera Metadata's members in brackets, or behind its bytes in brackets: `[HEX]` and its members.
+fn put_metadata(out: &mut [u8], at: usize, s: &[u8], bare: bool) -> usize {
     let a = put_byte(out, at, b'[');
+    if bare {
+        let b = put_camera(out, a, s);
+        return put_byte(out, b, b']');
+    }
     let b = put_bytes(out, a, s);
     let c = put_byte(out, b, b']');
-    packs(out, c, s)
+    put_camera(out, c, s)
 }
 
 // Puts each Private Camera Metadata of a package set.
-pub fn package(out: &mut [u8], at: usize, s: &[u8]) -> usize {
+pub fn package(out: &mut [u8], at: usize, s: &[u8], bare: bool) -> usize {
     let mut r = at;
     let mut from = 0;
     let mut end = 0;
@@ -35,7 +35,7 @@ pub fn package(out: &mut [u8], at: usize, s: &[u8]) -> usize {
         let Metadata::Value(k, next) = m else {
             return r;
         };
-        r = put_metadata(out, r, k.bytes(s));
+        r = put_metadata(out, r, k.bytes(s), bare);
         from = next.from;
         end = next.end;
     }
@@ -58,7 +58,7 @@ fn put_position(out: &mut [u8], at: usize, name: &[u8], p: Position) -> usize {
         return at;
     };
     let a = put_all(out, at, name);
-    let b = put_signed(out, a, n);
+    let b = put_twos(out, a, twos(n));
     put_byte(out, b, b';')
 }
 

@@ -1,39 +1,10 @@
 // The answer to `canon END HEX`: docs/CASES.md.
-use canon_sets::Metadata;
-use canon_sets::Package;
 use frames::Canon;
 use frames::CanonStep;
 use klv::Klv;
 use klv_text::put_klv;
 use text::put_all;
 use text::put_byte;
-
-// Puts the members of a Private Camera Metadata in brackets.
-fn put_members(out: &mut [u8], at: usize, s: &[u8]) -> usize {
-    let a = put_byte(out, at, b'[');
-    let b = answer_canon::packs(out, a, s);
-    put_byte(out, b, b']')
-}
-
-// Puts each Private Camera Metadata of a package set.
-fn put_package(out: &mut [u8], at: usize, s: &[u8]) -> usize {
-    let mut r = at;
-    let mut from = 0;
-    let mut end = 0;
-    let mut turns = s.len();
-    while turns > 0 {
-        turns -= 1;
-        let p = Package { from, end };
-        let m = p.step(s);
-        let Metadata::Value(k, next) = m else {
-            return r;
-        };
-        r = put_members(out, r, k.bytes(s));
-        from = next.from;
-        end = next.end;
-    }
-    r
-}
 
 // Puts the members of a sequence info in brackets.
 fn put_sequence(out: &mut [u8], at: usize, s: &[u8]) -> usize {
@@ -47,7 +18,7 @@ fn put_inside(out: &mut [u8], at: usize, s: &[u8], k: Klv) -> usize {
     if labels::same_label(k.label(s), &Canon::SEQUENCE_INFO) {
         return put_sequence(out, at, k.bytes(s));
     }
-    put_package(out, at, k.bytes(s))
+    answer_canon::package(out, at, k.bytes(s), true)
 }
 
 // Puts a given value: `-,p,label,v,length;`, and what is in it.

@@ -1,4 +1,4 @@
-// The answer to `sony END HEX`: docs/CASES.md.
+// The answers to `anc HEX` and `sony END HEX`: docs/CASES.md.
 use frames::Frame;
 use frames::Sony;
 use frames::SonyStep;
@@ -6,13 +6,27 @@ use klv_text::put_bytes;
 use klv_text::put_refused;
 use st436::Payload;
 use text::put_byte;
+use text::put_decimal;
 
-// Puts an element's payload. A case's bytes are at most 32,767, and a payload is never longer.
-fn put_payload(out: &mut [u8], at: usize, element: &[u8]) -> usize {
+// Puts a payload's length and a comma, where it is counted.
+fn put_length(out: &mut [u8], at: usize, n: usize, counted: bool) -> usize {
+    if !counted {
+        return at;
+    }
+    let a = put_decimal(out, at, n as u64);
+    put_byte(out, a, b',')
+}
+
+// Puts an element's payload, `LENGTH,PAYLOAD` where it is counted. A case's bytes are at most 32,767, and a payload is never
+// longer.
+pub fn put_payload(out: &mut [u8], at: usize, element: &[u8], counted: bool) -> usize {
     let mut room = [0u8; 32768];
     let p = st436::payload_into(element, &mut room);
     match p {
-        Payload::Is(n) => put_bytes(out, at, parts::part(&room, 0, n)),
+        Payload::Is(n) => {
+            let a = put_length(out, at, n, counted);
+            put_bytes(out, a, parts::part(&room, 0, n))
+        }
         Payload::Longer(_) => put_refused(out, at, 3),
     }
 }
@@ -25,7 +39,7 @@ pub fn put_frame(out: &mut [u8], at: usize, s: &[u8], f: Frame) -> usize {
         return put_byte(out, b, b';');
     }
     let k = f.element;
-    let b = put_payload(out, a, k.bytes(s));
+    let b = put_payload(out, a, k.bytes(s), false);
     put_byte(out, b, b';')
 }
 

@@ -3,8 +3,8 @@
 // Puts the answer to a case of Canon's.
 fn canon(word: u8, a: usize, s: &[u8], out: &mut [u8], at: usize) -> usize {
     match word {
-        case_lines::PACKS => answer_canon::packs(out, at, s),
-        case_lines::PACKAGE => answer_canon::package(out, at, s),
+        case_lines::PACKS => camera_text::put_camera(out, at, s),
+        case_lines::PACKAGE => answer_canon::package(out, at, s, false),
         case_lines::SEQUENCE => answer_canon::sequence(out, at, s),
         case_lines::CANON => answer_canon_walk::canon_frames(out, at, s, a),
         _ => text::put_byte(out, at, b'?'),
@@ -14,8 +14,8 @@ fn canon(word: u8, a: usize, s: &[u8], out: &mut [u8], at: usize) -> usize {
 // Puts the answer to a case of Sony's, or of Canon's.
 fn sony(word: u8, a: usize, s: &[u8], out: &mut [u8], at: usize) -> usize {
     match word {
-        case_lines::ANC => answer_sony::anc(out, at, s),
-        case_lines::SET => answer_sony::set(out, at, s),
+        case_lines::ANC => answer_frames::put_payload(out, at, s, true),
+        case_lines::SET => descriptor_text::put_descriptor(out, at, s),
         case_lines::SONY => answer_frames::sony_frames(out, at, s, a),
         _ => canon(word, a, s, out, at),
     }

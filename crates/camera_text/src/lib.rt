@@ -1,72 +1,92 @@
-// A camera's members as text, in the order of their names' bytes: docs/CASES.md.
-use camera_half_text::put_half;
-use canon_groups::Balance;
-use canon_packs::Camera;
-use canon_text::put_member;
-use canon_values::Value;
+// A camera's members as text, in the order of their names' bytes: docs/CASES.md, `packs`.
+use figure_text::bits;
+use figure_text::next_name;
+use figure_text::nth;
+use figure_text::put_member;
 
-// Puts the members from IR_Status to Image_Stabilizer.
-fn put_fifth(out: &mut [u8], at: usize, c: Camera) -> usize {
-    let gain = c.gain;
-    let modes = c.modes;
-    let w = modes.infrared;
-    let x = modes.iso;
-    let y = gain.iso_speed;
-    let z = modes.stabilizer;
-    let a = put_member(out, at, b"IR_Status", w);
-    let b = put_member(out, a, b"ISOMode", x);
-    let d = put_member(out, b, b"ISO_Speed", y);
-    put_member(out, d, b"Image_Stabilizer", z)
+// The members' names.
+const NAMES: [u8; 436] =
+    *b"AbstatLensValue=|Accurate_Flag=|Aperture_Mode=|BaseISO=|Base_Gamma_D_Range=|Camera_D_Range=|\
+    Color_Temperature=|Electric_Zoom=|F_Number=|Focal_Length=|Focal_Length_35Conv=|Focal_Length_No35Conv=|Focus_Mode=|\
+    Gain=|Gain_Mode=|HighSensitivityMode=|IR_Status=|ISOMode=|ISO_Speed=|Image_Stabilizer=|Isotemperature_Line_Index=|\
+    ND_Filter=|SetDistortion=|Set_Mode=|Shutter_Speed=|Shutter_Value=|T_Number=|VFX_Roll=|VFX_Tilt=|WB_Mode=|WB_Preset=|";
+
+// The place of each in the arrays of `brine_camera`, BRINE_CANON_.. of include/brinethimble.h.
+const PLACES: [u64; 31] = [
+    7, // LENS_VALUE
+    19, // BALANCE_ACCURATE
+    10, // APERTURE_MODE
+    26, // BASE_ISO
+    28, // BASE_GAMMA
+    27, // DYNAMIC_RANGE
+    20, // TEMPERATURE
+    1, // ELECTRIC_ZOOM
+    2, // F_NUMBER
+    0, // FOCAL_LENGTH
+    5, // FOCAL_LENGTH_35
+    4, // REAL_FOCAL_LENGTH
+    8, // FOCUS_MODE
+    23, // GAIN_LEVEL
+    22, // GAIN_MODE
+    12, // HIGH_SENSITIVITY
+    11, // INFRARED
+    13, // ISO_MODE
+    25, // ISO_SPEED
+    9, // STABILIZER
+    21, // ISOTEMPERATURE
+    24, // ND_FILTER
+    6, // SET_DISTORTION
+    15, // SHUTTER_MODE
+    14, // SHUTTER_SPEED
+    16, // SHUTTER_VALUE
+    3, // T_NUMBER
+    30, // ROLL
+    29, // TILT
+    17, // BALANCE_MODE
+    18, // BALANCE_PRESET
+];
+
+// A value's figure by its code: its number, or its bits.
+fn figure(kind: u64, whole: &[u64], floats: &[f64], i: usize) -> u64 {
+    if kind == 4 {
+        return bits(floats, i);
+    }
+    nth(whole, i)
 }
 
-// Puts the members from Isotemperature_Line_Index to Set_Mode.
-fn put_sixth(out: &mut [u8], at: usize, c: Camera) -> usize {
-    let balance = c.balance;
-    let gain = c.gain;
-    let lens = c.lens;
-    let shutter = c.shutter;
-    let w = balance.isotemperature;
-    let x = gain.nd_filter;
-    let y = lens.set_distortion;
-    let z = shutter.mode;
-    let a = put_member(out, at, b"Isotemperature_Line_Index", w);
-    let b = put_member(out, a, b"ND_Filter", x);
-    let d = put_member(out, b, b"SetDistortion", y);
-    put_member(out, d, b"Set_Mode", z)
+// Puts each member that is there.
+fn put_members(
+    out: &mut [u8],
+    at: usize,
+    kinds: &[u64; 31],
+    whole: &[u64; 31],
+    floats: &[f64; 31],
+) -> usize {
+    let mut r = at;
+    let mut name = 0;
+    let mut i = 0;
+    while i < 31 {
+        let place = nth(&PLACES, i) as usize;
+        let kind = nth(kinds, place);
+        r = put_member(
+            out,
+            r,
+            &NAMES,
+            name,
+            kind,
+            figure(kind, whole, floats, place),
+        );
+        name = next_name(&NAMES, name);
+        i += 1;
+    }
+    r
 }
 
-// Puts the members from Shutter_Speed to VFX_Roll.
-fn put_seventh(out: &mut [u8], at: usize, c: Camera) -> usize {
-    let lens = c.lens;
-    let ranges = c.ranges;
-    let shutter = c.shutter;
-    let w = shutter.speed;
-    let x = shutter.value;
-    let y = lens.t_number;
-    let z = ranges.roll;
-    let a = put_member(out, at, b"Shutter_Speed", w);
-    let b = put_member(out, a, b"Shutter_Value", x);
-    let d = put_member(out, b, b"T_Number", y);
-    put_member(out, d, b"VFX_Roll", z)
-}
-
-// Puts the members from VFX_Tilt to WB_Preset.
-fn put_eighth(out: &mut [u8], at: usize, tilt: Value, balance: Balance) -> usize {
-    let x = balance.mode;
-    let y = balance.preset;
-    let a = put_member(out, at, b"VFX_Tilt", tilt);
-    let b = put_member(out, a, b"WB_Mode", x);
-    put_member(out, b, b"WB_Preset", y)
-}
-
-// Puts a camera's members, in the order of their names' bytes.
-pub fn put_camera(out: &mut [u8], at: usize, c: Camera) -> usize {
-    let a = put_half(out, at, c);
-    let b = put_fifth(out, a, c);
-    let d = put_sixth(out, b, c);
-    let e = put_seventh(out, d, c);
-    let ranges = c.ranges;
-    let tilt = ranges.tilt;
-    let balance = c.balance;
-    put_eighth(out, e, tilt, balance)
+// Puts the members of a Private Camera Metadata.
+pub fn put_camera(out: &mut [u8], at: usize, s: &[u8]) -> usize {
+    let mut kinds = [0u64; 31];
+    let mut whole = [0u64; 31];
+    let mut floats = [0.0f64; 31];
+    host_canon::brine_camera(s, &mut kinds, &mut whole, &mut floats);
+    put_members(out, at, &kinds, &whole, &floats)
 }

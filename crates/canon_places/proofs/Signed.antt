@@ -13,28 +13,33 @@ use mir.ValLaws.{toZ-ofZ}
 use Rattle.canon_places.specs.Slots.{twos}
 
 -- as the machine reads it back
-pub back : (z : ℤ) → SFits w16 z → SFits w16 (toZ w16 (ofZ w16 z))
-back z f = rw (toZ-ofZ w16 z f) f
+pub back : (z : ℤ) → SFits w64 z → SFits w64 (toZ w64 (ofZ w64 z))
+back z f = rw (toZ-ofZ w64 z f) f
+
+-- a number of 16 bits is one of 64
+pub wider : (z : ℤ) → SFits w16 z → SFits w64 z
+wider (pos n) f = record { sfits = omega (arith, f .sfits) }
+wider (negsuc n) f = record { sfits = omega (arith, f .sfits) }
 
 turned : (k : ℕ) → negsuc 0 -ℤ negsuc k ≡ pos k
 turned k =
     let e : suc k - 1 ≡ k = omega arith in
     ap (λ (t : Bool). cond t (negsuc (1 - suc (suc k))) (pos (suc k - 1))) (le-ltb (suc k) 1 (omega arith)) ∙ ap pos e
 
-module _ (k : ℕ) (f : SFits w16 (negsuc k)) where
-  turned-fits : SFits w16 (negsuc 0 -ℤ negsuc k)
+module _ (k : ℕ) (f : SFits w64 (negsuc k)) where
+  turned-fits : SFits w64 (negsuc 0 -ℤ negsuc k)
   turned-fits = rw turned (record { sfits = f .sfits })
 
-  turned-back : toZ w16 (ofZ w16 (negsuc 0 -ℤ negsuc k)) ≡ pos k
-  turned-back = toZ-ofZ w16 (negsuc 0 -ℤ negsuc k) turned-fits ∙ turned k
+  turned-back : toZ w64 (ofZ w64 (negsuc 0 -ℤ negsuc k)) ≡ pos k
+  turned-back = toZ-ofZ w64 (negsuc 0 -ℤ negsuc k) turned-fits ∙ turned k
 
 -- how far z is from -1
 abbrev pub far : ℤ → ℤ
-far z = toZ w16 (ofZ w16 (negsuc 0 -ℤ z))
+far z = toZ w64 (ofZ w64 (negsuc 0 -ℤ z))
 
 -- The needs of a number below 0, and its answer
 pub record Below (z : ℤ) : Type 0 where
-  pub sub : SFits w16 (negsuc 0 -ℤ z)
+  pub sub : SFits w64 (negsuc 0 -ℤ z)
   pub cast : T (nonNeg (far z)) × Fits w64 (natAbs (far z))
   pub least : natAbs (far z) ≤ 18446744073709551615
   pub is : 18446744073709551615 - natAbs (far z) ≡ twos z
@@ -43,7 +48,7 @@ twos-below : (k : ℕ) → 18446744073709551615 - k ≡ twos (negsuc k)
 unfolding twos
 twos-below k = omega arith
 
-pub negative : (z : ℤ) → SFits w16 z → ltZ z (pos 0) ≡ true → Below z
+pub negative : (z : ℤ) → SFits w64 z → ltZ z (pos 0) ≡ true → Below z
 negative (pos n) f e = absurd (omega (arith, ltb-true n 0 e))
 negative (negsuc k) f e =
     record {
@@ -58,7 +63,7 @@ pub record Not-below (z : ℤ) : Type 0 where
   pub cast : T (nonNeg z) × Fits w64 (natAbs z)
   pub is : natAbs z ≡ twos z
 
-pub not-negative : (z : ℤ) → SFits w16 z → ltZ z (pos 0) ≡ false → Not-below z
+pub not-negative : (z : ℤ) → SFits w64 z → ltZ z (pos 0) ≡ false → Not-below z
 unfolding twos
 not-negative (pos n) f e = record { cast = (tt, record { fits = omega (arith, f .sfits) }); is = refl }
 not-negative (negsuc n) f e = let z : _≡_ {A = ℕ} 0 1 = cc in absurd (omega arith)

@@ -5,7 +5,7 @@ ghost use Rattle.canon_places.specs.Slots.{twos, mark, kindOf, wholeOf, 
 use canon_values::Value;
 
 // A signed number in two's complement: one below 0 is 2 ^ 64 more.
-fn twos(n: i16) -> u64
+pub fn twos(n: i64) -> u64
     ensures { λ r. ⌜ r ≡ twos n ⌝ }
 {
     if n < 0 {
@@ -14,6 +14,13 @@ fn twos(n: i16) -> u64
         return u64::MAX - up;
     }
     n as u64
+}
+
+// A number of 16 bits as one of 64.
+fn wide(n: i16) -> i64
+    ensures { λ r. ⌜ r ≡ n ⌝ }
+{
+    n as i64
 }
 
 // 1 for a flag that is set.
@@ -51,7 +58,7 @@ fn whole_of(v: Value) -> u64
         Value::Nothing => 0,
         Value::Code(n) => n as u64,
         Value::Whole(n) => n as u64,
-        Value::Signed(n) => twos(n),
+        Value::Signed(n) => twos(wide(n)),
         Value::Float(_) => 0,
         Value::Flag(b) => mark(b),
         Value::Off => 0,

@@ -1,90 +1,79 @@
-// A descriptor's fields as text: docs/CASES.md, `set`.
-use descriptor::Area;
-use descriptor::Descriptor;
-use descriptor::Rate;
-use descriptor::Whole;
-use text::put_all;
-use text::put_byte;
-use text::put_decimal;
-use text::put_hex_number;
+// A descriptor's fields as text, in the order of their list: docs/CASES.md, `set`.
+use figure_text::bits;
+use figure_text::next_name;
+use figure_text::nth;
+use figure_text::put_member;
 
-// Puts a field's name, in two parts.
-fn put_name(out: &mut [u8], at: usize, of: &[u8], name: &[u8]) -> usize {
-    let a = put_all(out, at, of);
-    put_all(out, a, name)
+// The fields' names.
+const NAMES: [u8; 262] =
+    *b"Duration=|RoundedTimecodeBase=|StartTimecode=|DropFrame=|SampleRate=|ContainerDuration=|\
+    StoredHeight=|StoredWidth=|SampledHeight=|SampledWidth=|SampledXOffset=|SampledYOffset=|\
+    DisplayHeight=|DisplayWidth=|DisplayXOffset=|DisplayYOffset=|AspectRatio=|ColorRange=|";
+
+// The place of each in the arrays of `brine_descriptor`, those of the rates behind the sixteen others: include/brinethimble.h.
+const PLACES: [u64; 18] = [0, 1, 2, 3, 16, 4, 5, 6, 7, 8, 9, 10, 11, 12, 13, 14, 17, 15];
+
+// A member's code where it is there, else 0.
+fn code(found: u64, kind: u64) -> u64 {
+    if found == 0 {
+        return 0;
+    }
+    kind
 }
 
-// Puts a whole number, `StoredHeight=i:1080;`, or nothing.
-fn put_whole(out: &mut [u8], at: usize, of: &[u8], name: &[u8], w: Whole) -> usize {
-    let Whole::Is(n) = w else {
-        return at;
-    };
-    let a = put_name(out, at, of, name);
-    let b = put_all(out, a, b"=i:");
-    let c = put_decimal(out, b, n);
-    put_byte(out, c, b';')
+// A field's code: 2 for a whole number, 4 for a rate, 0 where it is not there.
+fn kind(present: &[u64], rates_present: &[u64], i: usize) -> u64 {
+    if i < 16 {
+        return code(nth(present, i), 2);
+    }
+    code(nth(rates_present, i - 16), 4)
 }
 
-// Puts a rate by its bits, or nothing.
-fn put_rate(out: &mut [u8], at: usize, name: &[u8], w: Rate) -> usize {
-    let Rate::Is(x) = w else {
-        return at;
-    };
-    let a = put_all(out, at, name);
-    let b = put_all(out, a, b"=f:");
-    let c = put_hex_number(out, b, floats::f64_bits(x), 16);
-    put_byte(out, c, b';')
+// A field's number, or a rate's bits.
+fn figure(whole: &[u64], rates: &[f64], i: usize) -> u64 {
+    if i < 16 {
+        return nth(whole, i);
+    }
+    bits(rates, i - 16)
 }
 
-// Puts an area's fields.
-fn put_area(out: &mut [u8], at: usize, of: &[u8], area: Area) -> usize {
-    let height = area.height;
-    let width = area.width;
-    let x = area.x_offset;
-    let y = area.y_offset;
-    let a = put_whole(out, at, of, b"Height", height);
-    let b = put_whole(out, a, of, b"Width", width);
-    let c = put_whole(out, b, of, b"XOffset", x);
-    put_whole(out, c, of, b"YOffset", y)
+// Puts each field that is there.
+fn put_fields(
+    out: &mut [u8],
+    at: usize,
+    present: &[u64; 16],
+    whole: &[u64; 16],
+    rates_present: &[u64; 2],
+    rates: &[f64; 2],
+) -> usize {
+    let mut r = at;
+    let mut name = 0;
+    let mut i = 0;
+    while i < 18 {
+        let place = nth(&PLACES, i) as usize;
+        let kind = kind(present, rates_present, place);
+        r = put_member(out, r, &NAMES, name, kind, figure(whole, rates, place));
+        name = next_name(&NAMES, name);
+        i += 1;
+    }
+    r
 }
 
-// Puts a descriptor's timecode.
-fn put_timecode(out: &mut [u8], at: usize, d: Descriptor) -> usize {
-    let base = d.timecode_base;
-    let start = d.start_timecode;
-    let drop = d.drop_frame;
-    let a = put_whole(out, at, b"Rounded", b"TimecodeBase", base);
-    let b = put_whole(out, a, b"Start", b"Timecode", start);
-    put_whole(out, b, b"Drop", b"Frame", drop)
-}
-
-// Puts a descriptor's fields up to those of the picture.
-fn put_times(out: &mut [u8], at: usize, d: Descriptor) -> usize {
-    let duration = d.duration;
-    let rate = d.sample_rate;
-    let container = d.container_duration;
-    let a = put_whole(out, at, b"", b"Duration", duration);
-    let b = put_timecode(out, a, d);
-    let c = put_rate(out, b, b"SampleRate", rate);
-    put_whole(out, c, b"Container", b"Duration", container)
-}
-
-// Puts a descriptor's sizes and areas.
-fn put_areas(out: &mut [u8], at: usize, d: Descriptor) -> usize {
-    let height = d.stored_height;
-    let width = d.stored_width;
-    let a = put_whole(out, at, b"Stored", b"Height", height);
-    let b = put_whole(out, a, b"Stored", b"Width", width);
-    let c = put_area(out, b, b"Sampled", d.sampled);
-    put_area(out, c, b"Display", d.display)
-}
-
-// Puts a descriptor's fields, in the order of their list.
-pub fn put_descriptor(out: &mut [u8], at: usize, d: Descriptor) -> usize {
-    let aspect = d.aspect_ratio;
-    let range = d.color_range;
-    let a = put_times(out, at, d);
-    let b = put_areas(out, a, d);
-    let c = put_rate(out, b, b"AspectRatio", aspect);
-    put_whole(out, c, b"Color", b"Range", range)
+// Puts the fields of a descriptor's set, or that it is refused.
+pub fn put_descriptor(out: &mut [u8], at: usize, s: &[u8]) -> usize {
+    let mut present = [0u64; 16];
+    let mut whole = [0u64; 16];
+    let mut rates_present = [0u64; 2];
+    let mut rates = [0.0f64; 2];
+    let status = host_descriptor::brine_descriptor(
+        s,
+        &mut present,
+        &mut whole,
+        &mut rates_present,
+        &mut rates,
+    );
+    if status == 0 {
+        return put_fields(out, at, &present, &whole, &rates_present, &rates);
+    }
+    klv_text::put_refused(out, at, status as u64)
 }

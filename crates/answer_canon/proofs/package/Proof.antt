@@ -7,10 +7,10 @@ use Rattle.answer_canon.proofs.package.Statement.{statement}
 use Rattle.answer_canon.proofs.package.Tie as tie
 
 abbrev Inv-loop : tie.InvT-loop
-Inv-loop out₀ at s r₀ from₀ end₀ turns₀ out r from end turns = length out ≡ length out₀
+Inv-loop out₀ at s bare r₀ from₀ end₀ turns₀ out r from end turns = length out ≡ length out₀
 
 abbrev μ-loop : tie.MeasureT-loop
-μ-loop out₀ at s r₀ from₀ end₀ turns₀ out r from end turns = turns
+μ-loop out₀ at s bare r₀ from₀ end₀ turns₀ out r from end turns = turns
 
 loop-holds : tie.Need-loop-holds Inv-loop μ-loop
 loop-holds c = search needs

@@ -1,8 +1,10 @@
 -- `canon_places::whole_of` answers each case of the value.
 use mathlib.Core.Path.{ap, _∙_}
-use mir.Syntax.{w16}
+use mir.Syntax.{w16, w64}
+use mir.Val.{SFits, toZ, ofZ}
 use mir.ValLaws.{toZ-ofZ}
 use Rattle.canon_places.specs.Slots.{twos, wholeOf}
+use Rattle.canon_places.proofs.Signed.{wider}
 use borrow.Author.Needs.{needs}
 use Rattle.canon_places.proofs.whole_of.Statement.{statement}
 use Rattle.canon_places.proofs.whole_of.Tie as tie
@@ -24,6 +26,9 @@ cast-result-2 c = search needs
 
 enum-known-v-3 : tie.Need-enum-known-v-3
 enum-known-v-3 c = search needs
+
+wide-requires : tie.Need-wide-requires
+wide-requires c κs = search needs
 
 twos-requires : tie.Need-twos-requires
 twos-requires c κs = search needs
@@ -69,7 +74,11 @@ returns-3 c = rw (c .before .v2 .given .1)
 
 returns-4 : tie.Need-returns-4
 unfolding wholeOf
-returns-4 c = rw (c .before .before .v3 .given .1) (c .twos .ensures ∙ ap twos (toZ-ofZ w16 _ (record { sfits = c .before .known-told3 .given .0 .1 })))
+returns-4 c =
+    let n : SFits w16 (c .before .before .before .v3 .given .0 .0) = record { sfits = c .before .before .known-told3 .given .0 .1 } in
+    let e = c .before .wide .ensures ∙ toZ-ofZ w16 _ n in
+    rw (c .before .before .before .v3 .given .1)
+    (c .twos .ensures ∙ ap twos (ap (λ z. toZ w64 (ofZ w64 z)) e ∙ toZ-ofZ w64 _ (wider _ n)))
 
 returns-5 : tie.Need-returns-5
 unfolding wholeOf
@@ -106,6 +115,6 @@ returns-12 c = rw (c .enum-told8 .given .1)
 pub whole-of-spec : {M : Type 1} → statement M
 whole-of-spec =
     tie.close
-    (tie.spec enum-told enum-known-v cast-result enum-known-v-2 cast-result-2 enum-known-v-3 twos-requires enum-told-2
+    (tie.spec enum-told enum-known-v cast-result enum-known-v-2 cast-result-2 enum-known-v-3 wide-requires twos-requires enum-told-2
     enum-known-v-4 mark-requires enum-told-3 enum-told-4 enum-told-5 enum-told-6 enum-told-7 enum-told-8 returns returns-2
     returns-3 returns-4 returns-5 returns-6 returns-7 returns-8 returns-9 returns-10 returns-11 returns-12)
