@@ -8,7 +8,7 @@ use text::put_decimal;
 use values_text::put_values;
 
 // Puts the place of ARRI's 256 bytes in an element, or `-`.
-pub fn dynamic(out: &mut [u8], at: usize, s: &[u8]) -> usize {
+fn dynamic(out: &mut [u8], at: usize, s: &[u8]) -> usize {
     let b = arri_block::find(s);
     let Block::At(p) = b else {
         return put_byte(out, at, b'-');
@@ -17,16 +17,11 @@ pub fn dynamic(out: &mut [u8], at: usize, s: &[u8]) -> usize {
 }
 
 // Puts the values of an ALEXA Mini's 256 bytes; other counts of bytes are no case.
-pub fn of_dynamic(out: &mut [u8], at: usize, s: &[u8]) -> usize {
+fn of_dynamic(out: &mut [u8], at: usize, s: &[u8]) -> usize {
     if s.len() != 256 {
         return put_byte(out, at, b'?');
     }
     put_values(out, at, arri_mini::of_dynamic(s))
-}
-
-// Puts the values of an ALEXA 35's element.
-pub fn alexa(out: &mut [u8], at: usize, s: &[u8]) -> usize {
-    put_values(out, at, alexa35::of_alexa35(s))
 }
 
 // Puts a frame's values, or `-`.
@@ -46,7 +41,7 @@ fn put_frame(out: &mut [u8], at: usize, s: &[u8], f: frames::Frame) -> usize {
 }
 
 // Puts the frames of ARRI's walk over s.
-pub fn arri_frames(out: &mut [u8], at: usize, s: &[u8], end: usize) -> usize {
+fn arri_frames(out: &mut [u8], at: usize, s: &[u8], end: usize) -> usize {
     if s.len() < end {
         return klv_text::put_refused(out, at, 1);
     }
@@ -63,4 +58,15 @@ pub fn arri_frames(out: &mut [u8], at: usize, s: &[u8], end: usize) -> usize {
         walk = next;
     }
     r
+}
+
+// Puts the answer to a case of ARRI's.
+pub fn reply(word: u8, end: usize, s: &[u8], out: &mut [u8], at: usize) -> usize {
+    match word {
+        case_lines::DYNAMIC => dynamic(out, at, s),
+        case_lines::OF_DYNAMIC => of_dynamic(out, at, s),
+        case_lines::ALEXA => put_values(out, at, alexa35::of_alexa35(s)),
+        case_lines::ARRI => arri_frames(out, at, s, end),
+        _ => put_byte(out, at, b'?'),
+    }
 }

@@ -1,4 +1,4 @@
-// The answer to `canon END HEX`: docs/CASES.md.
+// The answer to `canon END HEX`, and to each word of Canon's: docs/CASES.md.
 use frames::Canon;
 use frames::CanonStep;
 use klv::Klv;
@@ -30,7 +30,7 @@ fn put_given(out: &mut [u8], at: usize, s: &[u8], k: Klv) -> usize {
 }
 
 // Puts the frames of Canon's walk over s, and what it gives among them.
-pub fn canon_frames(out: &mut [u8], at: usize, s: &[u8], end: usize) -> usize {
+fn canon_frames(out: &mut [u8], at: usize, s: &[u8], end: usize) -> usize {
     if s.len() < end {
         return klv_text::put_refused(out, at, 1);
     }
@@ -54,4 +54,15 @@ pub fn canon_frames(out: &mut [u8], at: usize, s: &[u8], end: usize) -> usize {
         }
     }
     r
+}
+
+// Puts the answer to a case of Canon's.
+pub fn reply(word: u8, end: usize, s: &[u8], out: &mut [u8], at: usize) -> usize {
+    match word {
+        case_lines::PACKS => camera_text::put_camera(out, at, s),
+        case_lines::PACKAGE => answer_canon::package(out, at, s, false),
+        case_lines::SEQUENCE => answer_canon::sequence(out, at, s),
+        case_lines::CANON => canon_frames(out, at, s, end),
+        _ => put_byte(out, at, b'?'),
+    }
 }

@@ -1,4 +1,4 @@
-// The answers to `anc HEX` and `sony END HEX`: docs/CASES.md.
+// The answers to `anc HEX`, `set HEX` and `sony END HEX`: docs/CASES.md.
 use frames::Frame;
 use frames::Sony;
 use frames::SonyStep;
@@ -19,7 +19,7 @@ fn put_length(out: &mut [u8], at: usize, n: usize, counted: bool) -> usize {
 
 // Puts an element's payload, `LENGTH,PAYLOAD` where it is counted. A case's bytes are at most 32,767, and a payload is never
 // longer.
-pub fn put_payload(out: &mut [u8], at: usize, element: &[u8], counted: bool) -> usize {
+fn put_payload(out: &mut [u8], at: usize, element: &[u8], counted: bool) -> usize {
     let mut room = [0u8; 32768];
     let p = st436::payload_into(element, &mut room);
     match p {
@@ -44,7 +44,7 @@ pub fn put_frame(out: &mut [u8], at: usize, s: &[u8], f: Frame) -> usize {
 }
 
 // Puts the frames of Sony's walk over s.
-pub fn sony_frames(out: &mut [u8], at: usize, s: &[u8], end: usize) -> usize {
+fn sony_frames(out: &mut [u8], at: usize, s: &[u8], end: usize) -> usize {
     if s.len() < end {
         return put_refused(out, at, 1);
     }
@@ -61,4 +61,14 @@ pub fn sony_frames(out: &mut [u8], at: usize, s: &[u8], end: usize) -> usize {
         walk = next;
     }
     r
+}
+
+// Puts the answer to a case of Sony's.
+pub fn reply(word: u8, end: usize, s: &[u8], out: &mut [u8], at: usize) -> usize {
+    match word {
+        case_lines::ANC => put_payload(out, at, s, true),
+        case_lines::SET => descriptor_text::put_descriptor(out, at, s),
+        case_lines::SONY => sony_frames(out, at, s, end),
+        _ => put_byte(out, at, b'?'),
+    }
 }

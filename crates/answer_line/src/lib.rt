@@ -4,13 +4,20 @@ use case_lines::Line;
 use lines::WAITS;
 use lines::flush;
 
-// Puts the answer to a case over its bytes: the cameras' words come after the others.
+// Puts the answer to a case over its bytes. The words' numbers go by their kinds: the walk's and the tables', then the cameras'.
 fn reply(c: Case, s: &[u8], out: &mut [u8], at: usize) -> usize {
     let word = c.word;
     if word <= case_lines::ITEMS {
         return replies::reply(c, s, out, at);
     }
-    camera_replies::reply(word, c.a as usize, s, out, at)
+    let end = c.a as usize;
+    if word <= case_lines::ARRI {
+        return answer_arri::reply(word, end, s, out, at);
+    }
+    if word <= case_lines::SONY {
+        return answer_frames::reply(word, end, s, out, at);
+    }
+    answer_canon_walk::reply(word, end, s, out, at)
 }
 
 // Puts the answer to a line; half as many bytes as the longest line has characters are room for its own.

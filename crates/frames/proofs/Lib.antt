@@ -1,5 +1,3 @@
 pub mod Laws
 pub mod Seeks
 pub mod Answers
-pub mod Lists
-pub mod Counted

@@ -1,16 +1,13 @@
 -- The frame walks: document 01, "Frame walks".
-use Prim.Native.Nat.{ℕ, _+_, _%_, _^_, _≤_}
-use mathlib.Core.Path.{_≡_}
-use mathlib.Core.List.{List, [], _∷_}
+use Prim.Native.Nat.{ℕ, _+_, _%_, _^_}
+use mathlib.Core.List.{List}
 use mathlib.Core.Bool.{Bool, true, false, cond}
 use lib.ListN.{length}
 use lib.Dec.{ltb}
 use Rattle.steps.specs.Told.{Told, found, nothing, refused}
-use Rattle.steps.specs.Wanted.{wantedFrom, kept}
-use Rattle.klv.specs.declared.Klv.{Klv}
+use Rattle.steps.specs.Wanted.{wantedFrom}
 use Rattle.klv.specs.Item.{Item}
 use Rattle.walk.specs.Walk.{finishedBy}
-use Rattle.records.specs.Records.{finishedListBy, finishedFrom}
 use Rattle.frames.specs.declared.Camera.{Camera}
 use Rattle.frames.specs.declared.Camera.the-variants as camera
 use Rattle.frames.specs.declared.Frame.{Frame}
@@ -32,11 +29,7 @@ use Rattle.frames.specs.Kinds.{kind, isFrame, isWanted, overLong, goesOn
 abbrev pub wanted : Camera → Item → Bool
 wanted c i = isWanted (kind c i)
 
--- the records of a camera's walk from p on: the frames, and what is given beside them, in file order
-abbrev pub wantedRecords : Camera → List ℕ → ℕ → ℕ → List Item
-wantedRecords c s e p = kept (wanted c) (finishedListBy (goesOn c) s e p)
-
--- the next of them
+-- the next record that a walk stops at
 abbrev pub wantedStep : Camera → List ℕ → ℕ → ℕ → Told Item
 wantedStep c s e p = wantedFrom (wanted c) (finishedBy (goesOn c) s e) e p
 
@@ -52,30 +45,6 @@ frame c n i = record { number = n; element = i .klv; overlong = overLong c i }
 -- the number after n, in 64 bits
 abbrev pub after : ℕ → ℕ
 after n = (n + 1) % 2 ^ 64
-
--- what a walk shows: frames with their numbers, and given values, which take none
-pub data Shown : Type 0 where
-  framed : Frame → Shown
-  given : Klv → Shown
-
--- frames are numbered in order: a frame's number is how many came before it, from n on
-unfoldable pub shown : Camera → ℕ → List Item → List Shown
-shown c n [] = []
-shown c n (i ∷ l) = cond (isFrame (kind c i)) (framed (frame c n i) ∷ shown c (n + 1) l) (given (i .klv) ∷ shown c n l)
-
--- a camera's walk of s with the end e, whole
-abbrev pub framesOf : Camera → List ℕ → ℕ → List Shown
-framesOf c s e = shown c 0 (wantedRecords c s e 0)
-
--- none of these records is over-long
-unfoldable pub AllRead : Camera → List Item → Type 0
-AllRead c [] = Unit {0}
-AllRead c (i ∷ l) = (overLong c i ≡ false) × AllRead c l
-
--- Frames are counted over demand 2's list: where none of its records is over-long, they are those of it that are wanted
-abbrev pub CountedOverRecords : Type 0
-CountedOverRecords =
-    (c : Camera) (s : List ℕ) (e : ℕ) → e ≤ length s → AllRead c (finishedFrom s e 0) → framesOf c s e ≡ shown c 0 (kept (wanted c) (finishedFrom s e 0))
 
 -- What the parts of a step say
 
