@@ -61,7 +61,7 @@ fn arri_frames(out: &mut [u8], at: usize, s: &[u8], end: usize) -> usize {
 }
 
 // Puts the answer to a case of ARRI's.
-pub fn reply(word: u8, end: usize, s: &[u8], out: &mut [u8], at: usize) -> usize {
+pub fn reply(word: usize, end: usize, s: &[u8], out: &mut [u8], at: usize) -> usize {
     match word {
         case_lines::DYNAMIC => dynamic(out, at, s),
         case_lines::OF_DYNAMIC => of_dynamic(out, at, s),

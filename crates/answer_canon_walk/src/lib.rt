@@ -57,7 +57,7 @@ fn canon_frames(out: &mut [u8], at: usize, s: &[u8], end: usize) -> usize {
 }
 
 // Puts the answer to a case of Canon's.
-pub fn reply(word: u8, end: usize, s: &[u8], out: &mut [u8], at: usize) -> usize {
+pub fn reply(word: usize, end: usize, s: &[u8], out: &mut [u8], at: usize) -> usize {
     match word {
         case_lines::PACKS => camera_text::put_camera(out, at, s),
         case_lines::PACKAGE => answer_canon::package(out, at, s, false),

@@ -64,7 +64,7 @@ fn sony_frames(out: &mut [u8], at: usize, s: &[u8], end: usize) -> usize {
 }
 
 // Puts the answer to a case of Sony's.
-pub fn reply(word: u8, end: usize, s: &[u8], out: &mut [u8], at: usize) -> usize {
+pub fn reply(word: usize, end: usize, s: &[u8], out: &mut [u8], at: usize) -> usize {
     match word {
         case_lines::ANC => put_payload(out, at, s, true),
         case_lines::SET => descriptor_text::put_descriptor(out, at, s),

@@ -2,52 +2,53 @@
 use cases::head;
 use cases::tail;
 use check::same;
+use parts::part;
 use text::Bytes;
 use text::Number;
 
-pub const BER: u8 = 1;
+pub const BER: usize = 1;
 
-pub const KLVS: u8 = 2;
+pub const KLVS: usize = 2;
 
-pub const WALK: u8 = 3;
+pub const WALK: usize = 3;
 
-pub const STEP: u8 = 4;
+pub const STEP: usize = 4;
 
-pub const ARRIVE: u8 = 5;
+pub const ARRIVE: usize = 5;
 
-pub const TALLY: u8 = 6;
+pub const TALLY: usize = 6;
 
-pub const HEADER: u8 = 7;
+pub const HEADER: usize = 7;
 
-pub const PRIMER: u8 = 8;
+pub const PRIMER: usize = 8;
 
-pub const ITEMS: u8 = 9;
+pub const ITEMS: usize = 9;
 
-pub const DYNAMIC: u8 = 10;
+pub const DYNAMIC: usize = 10;
 
-pub const OF_DYNAMIC: u8 = 11;
+pub const OF_DYNAMIC: usize = 11;
 
-pub const ALEXA: u8 = 12;
+pub const ALEXA: usize = 12;
 
-pub const ARRI: u8 = 13;
+pub const ARRI: usize = 13;
 
-pub const ANC: u8 = 14;
+pub const ANC: usize = 14;
 
-pub const SET: u8 = 15;
+pub const SET: usize = 15;
 
-pub const SONY: u8 = 16;
+pub const SONY: usize = 16;
 
-pub const PACKS: u8 = 17;
+pub const PACKS: usize = 17;
 
-pub const PACKAGE: u8 = 18;
+pub const PACKAGE: usize = 18;
 
-pub const SEQUENCE: u8 = 19;
+pub const SEQUENCE: usize = 19;
 
-pub const CANON: u8 = 20;
+pub const CANON: usize = 20;
 
 // A case: its word's number, its numbers, and how many bytes it has.
 pub struct Case {
-    pub word: u8,
+    pub word: usize,
     pub a: u64,
     pub b: u64,
     pub n: usize,
@@ -59,96 +60,25 @@ pub enum Line {
     Nothing,
 }
 
-// The number of a word of arri/mxf.rs, 0 where it is none.
-fn arri_word(w: &[u8]) -> u8 {
-    if same(w, b"header") {
-        return HEADER;
-    }
-    if same(w, b"primer") {
-        return PRIMER;
-    }
-    if same(w, b"items") {
-        return ITEMS;
-    }
-    if same(w, b"dynamic") {
-        return DYNAMIC;
-    }
-    if same(w, b"ofdynamic") {
-        return OF_DYNAMIC;
-    }
-    if same(w, b"alexa") {
-        return ALEXA;
-    }
-    if same(w, b"arri") {
-        return ARRI;
-    }
-    0
-}
-
-// The number of a word of sony/mxf.rs, 0 where it is none.
-fn sony_word(w: &[u8]) -> u8 {
-    if same(w, b"anc") {
-        return ANC;
-    }
-    if same(w, b"set") {
-        return SET;
-    }
-    if same(w, b"sony") {
-        return SONY;
-    }
-    0
-}
-
-// The number of a word of canon/mxf_packs.rs, 0 where it is none.
-fn canon_word(w: &[u8]) -> u8 {
-    if same(w, b"packs") {
-        return PACKS;
-    }
-    if same(w, b"package") {
-        return PACKAGE;
-    }
-    if same(w, b"sequence") {
-        return SEQUENCE;
-    }
-    if same(w, b"canon") {
-        return CANON;
-    }
-    0
-}
+// The words in the order of their numbers, ten bytes each.
+const WORDS: [u8; 200] =
+    *b"ber       klvs      walk      step      arrive    tally     header    primer    items     dynamic   \
+    ofdynamic alexa     arri      anc       set       sony      packs     package   sequence  canon     ";
 
 // The number of a word, 0 where it is none.
-fn word_of(w: &[u8]) -> u8 {
-    if same(w, b"ber") {
-        return BER;
+fn word_of(w: &[u8]) -> usize {
+    let mut i = 0;
+    while i < 20 {
+        if same(w, head(part(&WORDS, i * 10, 10))) {
+            return i + 1;
+        }
+        i += 1;
     }
-    if same(w, b"klvs") {
-        return KLVS;
-    }
-    if same(w, b"walk") {
-        return WALK;
-    }
-    if same(w, b"step") {
-        return STEP;
-    }
-    if same(w, b"arrive") {
-        return ARRIVE;
-    }
-    if same(w, b"tally") {
-        return TALLY;
-    }
-    let sony = sony_word(w);
-    if sony != 0 {
-        return sony;
-    }
-    let canon = canon_word(w);
-    if canon != 0 {
-        return canon;
-    }
-    arri_word(w)
+    0
 }
 
 // How many numbers a word has before its bytes.
-fn numbers(word: u8) -> u8 {
+fn numbers(word: usize) -> u8 {
     match word {
         WALK | ARRIVE | ITEMS | ARRI | SONY | CANON => 1,
         STEP => 2,
@@ -157,7 +87,7 @@ fn numbers(word: u8) -> u8 {
 }
 
 // Whether a word's first number is an END, which may be `n`.
-fn ends(word: u8) -> bool {
+fn ends(word: usize) -> bool {
     match word {
         WALK | STEP | ARRI | SONY | CANON => true,
         _ => false,
@@ -176,7 +106,7 @@ fn last_field(rest: &[u8], count: u8) -> &[u8] {
 }
 
 // A word's first number, in a case of n bytes; 0 where it has none.
-fn first_number(rest: &[u8], word: u8, n: u64) -> Number {
+fn first_number(rest: &[u8], word: usize, n: u64) -> Number {
     if numbers(word) == 0 {
         return Number::Is(0);
     }
@@ -187,7 +117,7 @@ fn first_number(rest: &[u8], word: u8, n: u64) -> Number {
 }
 
 // A word's second number; 0 where it has none.
-fn second_number(rest: &[u8], word: u8) -> Number {
+fn second_number(rest: &[u8], word: usize) -> Number {
     if numbers(word) < 2 {
         return Number::Is(0);
     }

@@ -10,7 +10,7 @@ fn items(out: &mut [u8], at: usize, s: &[u8], coding: usize) -> usize {
 }
 
 // Puts the answer to a case of the tables'.
-fn tables(word: u8, a: usize, s: &[u8], out: &mut [u8], at: usize) -> usize {
+fn tables(word: usize, a: usize, s: &[u8], out: &mut [u8], at: usize) -> usize {
     match word {
         case_lines::HEADER => answer_tables::header_of(out, at, s),
         case_lines::PRIMER => answer_tables::primer_of(out, at, s),
