@@ -1,11 +1,11 @@
 // The answers to `packs HEX`, `package HEX` and `sequence HEX`: docs/CASES.md.
 use camera_text::put_camera;
-use canon_places::twos;
 use canon_sequence::Identifier;
 use canon_sequence::Position;
 use canon_sets::Metadata;
 use canon_sets::Package;
 use figure_text::put_twos;
+use host_numbers::twos;
 use klv_text::put_bytes;
 use text::put_all;
 use text::put_byte;

@@ -6,7 +6,6 @@ use mathlib.Core.Logic.{by-cases}
 use native.Mathlib.Omega.{arith}
 use native.Mathlib.Decide.{decLt}
 use lib.ListN.{length}
-use Rattle.steps.specs.Told.{found, refused}
 use Rattle.steps.proofs.Laws.{Moves}
 use Rattle.walk.specs.Walk.{finishedAfter, finishedBy, finishedStep, arrivingAfter, arrivingBy, arrivingStep, stepped}
 use Rattle.walk.proofs.Answers.{finished-refused, finished-within, arriving-refused, arriving-within}

@@ -1,20 +1,10 @@
 -- What the lent places hold of a value: include/brinethimble.h, "Canon's values".
-use Prim.Native.Nat.{ℕ, suc, _-_, _^_}
-use mathlib.Core.Bool.{Bool, cond}
-use lib.IntN.{ℤ, pos, negsuc}
+use Prim.Native.Nat.{ℕ}
 use lib.Ieee as ieee
+use Rattle.host_numbers.specs.Numbers.{twos, mark}
 use Rattle.canon_values.specs.declared.Value.{Value}
 use Rattle.canon_values.specs.declared.Value.the-variants.{Nothing, Code, Whole, Signed, Float, Flag, Off, Close, Others, Auto, Manual, Reserved}
 use Rattle.canon_places.specs.declared.Slot.{Slot}
-
--- a signed number in two's complement of 64 bits: one below 0 is 2 ^ 64 more
-unfoldable pub twos : ℤ → ℕ
-twos (pos n) = n
-twos (negsuc n) = 2 ^ 64 - suc n
-
--- 1 for a flag that is set
-unfoldable pub mark : Bool → ℕ
-mark b = cond b 1 0
 
 -- a value's code: BRINE_VALUE_*
 unfoldable pub kindOf : Value → ℕ

@@ -1,33 +1,16 @@
 // The places that a host's arrays have for a value of Canon's packs: include/brinethimble.h, "Canon's values". Every value has
 // a code; its number or figure is in the array of its type, and the rest is 0.
 ghost use mathlib.Core.Path.{_≡_};
-ghost use Rattle.canon_places.specs.Slots.{twos, mark, kindOf, wholeOf, floatOf, slotOf};
+ghost use Rattle.canon_places.specs.Slots.{kindOf, wholeOf, floatOf, slotOf};
 use canon_values::Value;
-
-// A signed number in two's complement: one below 0 is 2 ^ 64 more.
-pub fn twos(n: i64) -> u64
-    ensures { λ r. ⌜ r ≡ twos n ⌝ }
-{
-    if n < 0 {
-        let below = -1 - n;
-        let up = below as u64;
-        return u64::MAX - up;
-    }
-    n as u64
-}
+use host_numbers::mark;
+use host_numbers::twos;
 
 // A number of 16 bits as one of 64.
 fn wide(n: i16) -> i64
     ensures { λ r. ⌜ r ≡ n ⌝ }
 {
     n as i64
-}
-
-// 1 for a flag that is set.
-fn mark(b: bool) -> u64
-    ensures { λ r. ⌜ r ≡ mark b ⌝ }
-{
-    if b { 1 } else { 0 }
 }
 
 // A value's code.

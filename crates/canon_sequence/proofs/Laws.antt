@@ -1,12 +1,12 @@
 -- Laws of `specs/Sequence.antt`: a field by the tests of its item, and the fields by the steps over the items. Assumes nothing.
 use Prim.Native.Nat.{ℕ, _≤_}
-use mathlib.Core.Path.{_≡_, refl, sym}
-use mathlib.Core.List.{List, [], _∷_}
+use mathlib.Core.Path.{_≡_}
+use mathlib.Core.List.{List}
 use mathlib.Core.Bool.{false}
 use native.Mathlib.Omega.{arith}
 use borrow.Author.Tests.{eq-eqb, ne-eqb}
 use lib.ListN.{length}
-use Rattle.steps.specs.Told.{Told, found, nothing}
+use Rattle.steps.specs.Told.{found, nothing}
 use Rattle.steps.specs.Listed.{before, listFrom}
 use Rattle.signed.specs.Signed.{signedBits}
 use Rattle.parts.specs.Number.{numberAt}

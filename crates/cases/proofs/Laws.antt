@@ -1,6 +1,6 @@
 -- The laws of fields: a search for a space goes on from where it stands. Assumes nothing.
 use Prim.Native.Nat.{ℕ, suc, _+_, _≤_, _<_}
-use mathlib.Core.Path.{_≡_, refl, sym, ap, _∙_}
+use mathlib.Core.Path.{_≡_, refl, sym, _∙_}
 use mathlib.Core.List.{List, [], _∷_}
 use mathlib.Core.Bool.{Bool, true, false, cond, _&&_}
 use native.Mathlib.Numerals.{add-one}
@@ -12,7 +12,7 @@ use lib.Dec.{eqb}
 use Rattle.text.specs.declared.Bytes.the-variants as bytes
 use Rattle.text.specs.Read.{isHex, hexIn, hexInto, bytesOf}
 use Rattle.text.proofs.Reading.{hex-odd, hex-refused}
-use Rattle.cases.specs.Fields.{spaceIn, headOf, tailOf, isOne, endIn, bytesIn}
+use Rattle.cases.specs.Fields.{spaceIn, tailOf, isOne, bytesIn}
 
 pub space-next : (s : List ℕ) (i : ℕ) → i < length s → (getD s i 0 ≡ 32 → ⊥) → spaceIn (drop i s) ≡ suc (spaceIn (drop (i + 1) s))
 unfolding spaceIn

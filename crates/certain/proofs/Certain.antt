@@ -1,24 +1,22 @@
 -- Demand 3, and what follows from it. Assumes nothing.
-use Prim.Native.Nat.{ℕ, _+_, _-_, _≤_, _<_}
-use mathlib.Core.Path.{_≡_, refl, sym, ap, _∙_}
-use mathlib.Core.List.{List, [], _∷_, _++_, append-nil, append-assoc}
+use Prim.Native.Nat.{ℕ, _+_, _-_}
+use mathlib.Core.Path.{_≡_, _∙_}
+use mathlib.Core.List.{List, [], _++_, append-nil, append-assoc}
 use native.Mathlib.Omega.{arith}
 use native.Mathlib.Nat.{le-refl}
 use native.Mathlib.Decide.{decLt}
 use mathlib.Core.Logic.{by-cases}
 use lib.ListN.{length, length-append, List·getD-append, List·getD-eq-default}
 use Rattle.parts.specs.Bytes.{Bytes}
-use Rattle.lengths.proofs.Laws.{Taken, taken}
-use Rattle.klv.specs.Item.{Item}
 use Rattle.walk.specs.declared.Turn.{Turn}
 use Rattle.walk.specs.declared.Turn.the-variants.{Stop}
 use Rattle.walk.specs.Rules.{rules}
 use Rattle.walk.specs.Walk.{stepped}
 use Rattle.walk.proofs.Laws.{rule-end, rule-cut, Rule, at-end, no-key, cut-off, no-length, whole, waits, late, rule}
-use Rattle.records.specs.Records.{finished, finishedFrom, arriving}
+use Rattle.records.specs.Records.{finishedFrom, arriving}
 use Rattle.records.proofs.Stepping.{stepped-on}
-use Rattle.certain.specs.Certain.{File, Begins, Longest, Certain, NeverUnsaid, GoesOn, NothingMore}
-use Rattle.certain.proofs.Held.{fin-stop, Held, held}
+use Rattle.certain.specs.Certain.{File, Certain, NeverUnsaid, GoesOn, NothingMore}
+use Rattle.certain.proofs.Held.{fin-stop, held}
 use Rattle.certain.proofs.Longest.{longest-by}
 use Rattle.certain.proofs.GoingOn.{goes-on-by}
 

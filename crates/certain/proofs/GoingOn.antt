@@ -1,20 +1,18 @@
 -- Going on from the cursor where the walk waits gives what walking anew gives. Assumes nothing.
 use Prim.Native.Nat.{ℕ, zero, suc, _+_, _-_, _≤_, _<_, max}
 use mathlib.Core.Path.{_≡_, refl, sym, ap, _∙_}
-use mathlib.Core.List.{List, [], _∷_, _++_}
-use mathlib.Core.Bool.{Bool, true, false}
+use mathlib.Core.List.{List, [], _++_}
+use mathlib.Core.Bool.{false}
 use mathlib.Core.Logic.{by-cases}
 use native.Mathlib.Omega.{arith}
 use native.Mathlib.Decide.{decLt}
 use lib.ListN.{length}
-use Rattle.steps.specs.Told.{Told, found, nothing}
 use Rattle.steps.specs.Listed.{onward, endFrom}
 use Rattle.steps.proofs.Laws.{ended}
 use Rattle.labels.specs.Label.{keyAt}
 use Rattle.search.specs.Search.{keyBefore, searchFrom, keyBegins, waitFrom}
 use Rattle.search.proofs.Laws.{search-up, below-up, key-within}
 use Rattle.search.proofs.Found.{search-most, search-passed, search-holds, key-room, no-key-begins}
-use Rattle.klv.specs.declared.Klv.{Klv}
 use Rattle.klv.specs.Item.{Item, item}
 use Rattle.walk.specs.declared.Turn.{Turn}
 use Rattle.walk.specs.declared.Turn.the-variants.{Stop, Search, Record}
@@ -22,7 +20,7 @@ use Rattle.walk.specs.declared.Walked.{Walked}
 use Rattle.walk.specs.declared.Walked.the-variants.{Found, Stopped, Lost}
 use Rattle.walk.specs.Rules.{rules}
 use Rattle.walk.specs.Walk.{walked, arrivingAfter, arrivingBy}
-use Rattle.walk.proofs.Laws.{Fit, rules-moves, rules-record}
+use Rattle.walk.proofs.Laws.{rules-moves, rules-record}
 use Rattle.walk.proofs.Walking.{walk-stop, walk-record, walk-on, walk-lost}
 use Rattle.records.specs.Records.{arrivingListBy}
 use Rattle.records.proofs.Lists as lists

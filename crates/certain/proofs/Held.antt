@@ -1,7 +1,7 @@
 -- What is certain holds in every longer file, and what is left of the file's list starts where the walk stopped, a place
 -- that depends on the bytes that have arrived alone. Assumes nothing.
 use Prim.Native.Nat.{ℕ, zero, suc, _+_, _-_, _≤_, _<_}
-use mathlib.Core.Path.{_≡_, refl, sym, ap, _∙_}
+use mathlib.Core.Path.{_≡_, refl, sym, _∙_}
 use mathlib.Core.List.{List, [], _∷_, _++_}
 use native.Mathlib.Omega.{arith}
 use lib.ListN.{length}
@@ -11,7 +11,7 @@ use Rattle.walk.specs.declared.Turn.{Turn}
 use Rattle.walk.specs.declared.Turn.the-variants.{Stop, Search, Record}
 use Rattle.walk.specs.Rules.{rules}
 use Rattle.walk.specs.Walk.{finishedAfter, finishedBy, arrivingAfter, arrivingBy}
-use Rattle.walk.proofs.Laws.{Fit, rules-moves, rules-record}
+use Rattle.walk.proofs.Laws.{rules-moves, rules-record}
 use Rattle.records.specs.Records.{finishedListBy, arrivingListBy}
 use Rattle.records.proofs.Lists as lists
 use Rattle.records.proofs.Lists.{Onward, finished-says, arriving-says}

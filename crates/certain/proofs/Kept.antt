@@ -1,6 +1,6 @@
 -- What bytes that follow leave as it is: the rules, where they do not wait, and a record's label. Assumes nothing.
-use Prim.Native.Nat.{ℕ, _+_, _-_, _≤_, _<_}
-use mathlib.Core.Path.{_≡_, refl, sym, ap, _∙_}
+use Prim.Native.Nat.{ℕ, _+_, _-_, _≤_}
+use mathlib.Core.Path.{_≡_, sym, _∙_}
 use mathlib.Core.List.{List, _++_}
 use mathlib.Core.Bool.{Bool, true, false}
 use native.Mathlib.Omega.{arith}
@@ -10,14 +10,14 @@ use Rattle.parts.proofs.Spans.{followed}
 use Rattle.labels.specs.Label.{keyAt}
 use Rattle.labels.proofs.Laws.{key-same}
 use Rattle.lengths.specs.declared.Field.{Field}
-use Rattle.lengths.specs.declared.Length.the-variants.{Is, None}
+use Rattle.lengths.specs.declared.Length.the-variants.{Is}
 use Rattle.lengths.specs.Length.{lengthAt}
-use Rattle.lengths.proofs.Laws.{Taken, taken}
+use Rattle.lengths.proofs.Laws.{taken}
 use Rattle.lengths.proofs.Spans.{length-same, none-same}
 use Rattle.klv.specs.declared.Klv.{Klv}
-use Rattle.klv.specs.Item.{Item, item}
+use Rattle.klv.specs.Item.{item}
 use Rattle.walk.specs.declared.Turn.{Turn}
-use Rattle.walk.specs.declared.Turn.the-variants.{Stop, Search, Record}
+use Rattle.walk.specs.declared.Turn.the-variants.{Stop}
 use Rattle.walk.specs.Rules.{rules}
 use Rattle.walk.proofs.Laws.{rule-no-key, rule-none, rule-record, rule-late, Rule, at-end, no-key, cut-off, no-length, whole, waits, late, rule}
 

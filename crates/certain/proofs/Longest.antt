@@ -10,16 +10,12 @@ use native.Mathlib.Decide.{decLt}
 use lib.ListN.{length, getD, length-append, replicate, length-replicate, getD-replicate, List·getD-eq-default, List·getD-append}
 use lib.Seq.{getD-append-add}
 use Rattle.parts.specs.Bytes.{Bytes}
-use Rattle.lengths.specs.declared.Field.{Field}
-use Rattle.lengths.specs.declared.Length.the-variants.{Is}
-use Rattle.lengths.specs.Length.{lengthAt}
-use Rattle.lengths.proofs.Laws.{Taken, taken}
 use Rattle.klv.specs.declared.Klv.{Klv}
 use Rattle.klv.specs.Item.{Item, item, klv}
 use Rattle.walk.specs.declared.Turn.{Turn}
 use Rattle.walk.specs.declared.Turn.the-variants.{Stop, Search, Record}
 use Rattle.walk.specs.Rules.{rules}
-use Rattle.walk.proofs.Laws.{Fit, rules-moves, rules-record, rule-end, rule-cut, rule-record, rule-late, Rule, at-end, no-key, cut-off, no-length, whole, waits, late, rule}
+use Rattle.walk.proofs.Laws.{rules-moves, rules-record, rule-end, rule-cut, rule-record, rule-late, Rule, at-end, no-key, cut-off, no-length, whole, waits, late, rule}
 use Rattle.records.specs.Records.{finishedListBy, arrivingListBy}
 use Rattle.records.proofs.Lists.{Onward}
 use Rattle.certain.specs.Certain.{File, Begins, BeginsAll, Longest}

@@ -1,13 +1,13 @@
 -- Laws of `specs/`: a field by the tests of its item, and the fields by the steps over the items. Assumes nothing.
-use Prim.Native.Nat.{ℕ, zero, suc, _+_, _-_, _≤_, _<_}
-use mathlib.Core.Path.{_≡_, refl, sym, ap, _∙_}
-use mathlib.Core.List.{List, [], _∷_}
+use Prim.Native.Nat.{ℕ, _+_, _-_, _≤_, _<_}
+use mathlib.Core.Path.{_≡_, refl}
+use mathlib.Core.List.{List}
 use mathlib.Core.Bool.{Bool, true, false, _&&_}
 use native.Mathlib.Omega.{arith}
 use borrow.Author.Tests.{le-leb, lt-leb, leb-true, eq-eqb, ne-eqb}
 use lib.ListN.{length}
 use lib.Dec.{leb, eqb}
-use Rattle.steps.specs.Told.{Told, found, nothing}
+use Rattle.steps.specs.Told.{found, nothing}
 use Rattle.steps.specs.Listed.{before, onward, listFrom, endFrom}
 use Rattle.steps.proofs.Laws.{ended}
 use Rattle.parts.specs.Number.{numberAt}
@@ -17,7 +17,7 @@ use Rattle.items.specs.Items.{itemStep, itemsOf}
 use Rattle.items.proofs.Lists.{item-moves, item-listed}
 use Rattle.descriptor.specs.declared.Descriptor.{Descriptor}
 use Rattle.descriptor.specs.Fields.{holds, fieldsAfter, empty, fieldsOf}
-use Rattle.descriptor.specs.Descriptor.{Said, done, refused, itemsEnd, descriptorTold}
+use Rattle.descriptor.specs.Descriptor.{done, refused, itemsEnd, descriptorTold}
 
 module _ (tag : ℕ) (k : Klv) (field n : ℕ) where
   pub other-tag : (tag ≡ field → ⊥) → holds tag k field n ≡ false

@@ -2,7 +2,6 @@
 use Prim.Native.Nat.{ℕ}
 use mathlib.Core.Path.{_≡_, refl}
 use native.Mathlib.Omega.{arith}
-use Rattle.descriptor.specs.declared.Descriptor.{Descriptor}
 use Rattle.descriptor.specs.declared.Answer.{Answer}
 use Rattle.descriptor.specs.declared.Answer.the-variants as answer
 use Rattle.descriptor.specs.Descriptor.{told}

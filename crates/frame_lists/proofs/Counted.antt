@@ -10,7 +10,6 @@ use Rattle.klv.specs.Item.{Item, item, past}
 use Rattle.walk.specs.declared.Walked.{Walked}
 use Rattle.walk.specs.declared.Walked.the-variants.{Found, Stopped, Lost}
 use Rattle.walk.specs.Walk.{walked, finishedAfter, finishedBy, stepped}
-use Rattle.walk.proofs.Laws.{Fit}
 use Rattle.walk.proofs.Walking.{walk-fits}
 use Rattle.records.specs.Records.{finishedListBy, finishedFrom}
 use Rattle.records.proofs.Lists as lists

@@ -1,10 +1,9 @@
 -- Stepping gives the walk's frames, each with the count of those before it, and is over exactly at their end. Assumes
 -- nothing.
 use Prim.Native.Nat.{ℕ, _+_, _≤_}
-use mathlib.Core.Path.{_≡_, refl, sym, ap, _∙_}
+use mathlib.Core.Path.{_≡_, sym, ap, _∙_}
 use mathlib.Core.List.{List, [], _∷_}
 use mathlib.Core.Bool.{true, false}
-use native.Mathlib.Omega.{arith}
 use lib.ListN.{length}
 use Rattle.steps.specs.Told.{Told, found, nothing}
 use Rattle.steps.specs.Listed.{before, listFrom}

@@ -18,8 +18,6 @@ use Rattle.frame.specs.declared.Whole32.{Whole32}
 use Rattle.frame.specs.declared.Whole32.the-variants as whole32
 use Rattle.frame.specs.declared.Whole64.{Whole64}
 use Rattle.frame.specs.declared.Whole64.the-variants as whole64
-use Rattle.frame.specs.declared.Angles.{Angles}
-use Rattle.frame.specs.declared.Colours.{Colours}
 use Rattle.frame.specs.declared.Encoders.{Encoders}
 use Rattle.frame.specs.declared.Frame.{Frame}
 use Rattle.frame_places.specs.declared.Six.{Six}

@@ -1,21 +1,20 @@
 -- What a record is to a walk, by its kind, and the step's parts. Assumes nothing.
-use Prim.Native.Nat.{ℕ, _+_, _≤_, _<_}
-use mathlib.Core.Path.{_≡_, refl, sym, ap, _∙_}
+use Prim.Native.Nat.{ℕ, _≤_, _<_}
+use mathlib.Core.Path.{_≡_, refl}
 use mathlib.Core.List.{List}
 use mathlib.Core.Bool.{Bool, true, false, cond}
 use native.Mathlib.Omega.{arith}
 use borrow.Author.Tests.{le-ltb, lt-ltb, le-leb, lt-leb}
 use Rattle.labels.specs.Label.{sameLabel}
-use Rattle.steps.specs.Told.{found, nothing}
+use Rattle.steps.specs.Told.{found}
 use Rattle.klv.specs.Item.{Item, past}
 use Rattle.records.proofs.Lists.{Onward}
-use Rattle.frames.specs.declared.Kind.{Kind}
 use Rattle.frames.specs.declared.Kind.the-variants.{Frame, Given, Other}
 use Rattle.frames.specs.declared.Camera.{Camera}
-use Rattle.frames.specs.declared.Looked.the-variants.{Pass, Found, Over}
+use Rattle.frames.specs.declared.Looked.the-variants.{Pass, Found}
 use Rattle.frames.specs.Kinds.{sonyKind, canonKind, longestOf, kind, isFrame, isWanted, overLong, goesOn}
 use Rattle.frames.specs.Labels.{packageMetadata, sequenceInfo}
-use Rattle.frames.specs.Frames.{wanted, seenOf, recordAs, lookedAs}
+use Rattle.frames.specs.Frames.{recordAs, lookedAs}
 
 -- Canon's kinds
 

@@ -1,7 +1,7 @@
 -- What the lent places hold after a call: include/brinethimble.h. A refusal leaves them as they were.
 use Prim.Native.Nat.{ℕ}
-use mathlib.Core.Bool.{Bool, cond}
 use mathlib.Core.List.{List, [], _∷_}
+use Rattle.host_numbers.specs.Numbers.{mark}
 use Rattle.klv.specs.declared.Klv.{Klv}
 use Rattle.frames.specs.declared.Frame.{Frame}
 use Rattle.frames.specs.declared.SonyStep.{SonyStep}
@@ -10,10 +10,6 @@ use Rattle.frames.specs.declared.ArriStep.{ArriStep}
 use Rattle.frames.specs.declared.ArriStep.the-variants as arri
 use Rattle.frames.specs.declared.CanonStep.{CanonStep}
 use Rattle.frames.specs.declared.CanonStep.the-variants as canon
-
--- 1 for a mark that is set
-unfoldable pub mark : Bool → ℕ
-mark b = cond b 1 0
 
 -- a frame: found, its number, its element's place, its value's place and length, over-long or not, the next cursor and number
 unfoldable pub framePlaces : Frame → ℕ → ℕ → List ℕ

@@ -1,7 +1,7 @@
 // What a host links of the frame walks: numbers and slices in, a status and lent places out (include/brinethimble.h).
 ghost use mathlib.Core.Path.{_≡_};
 ghost use Rattle.frames.specs.Frames.{sonyStep, arriStep, canonStep};
-ghost use Rattle.host_frames.specs.Places.{mark, framePlaces, overPlaces, statusOf, placesOf, sonySaid, arriSaid, canonSaid};
+ghost use Rattle.host_frames.specs.Places.{framePlaces, overPlaces, statusOf, placesOf, sonySaid, arriSaid, canonSaid};
 use frames::Arri;
 use frames::ArriStep;
 use frames::Canon;
@@ -9,13 +9,7 @@ use frames::CanonStep;
 use frames::Frame;
 use frames::Sony;
 use frames::SonyStep;
-
-// 1 for a mark that is set.
-fn mark(b: bool) -> u64
-    ensures { λ r. ⌜ r ≡ mark b ⌝ }
-{
-    if b { 1 } else { 0 }
-}
+use host_numbers::mark;
 
 // Puts a frame, and the cursor and number that follow it.
 fn put_frame(f: Frame, at: usize, number: u64, out: &mut [u64; 8])

@@ -2,7 +2,6 @@
 use Prim.Native.Nat.{ℕ}
 use mathlib.Core.List.{List, [], _∷_}
 use Rattle.steps.specs.Told.{Told, found, nothing, refused}
-use Rattle.klv.specs.declared.Klv.{Klv}
 use Rattle.header.specs.declared.Header.{Header}
 use Rattle.header.specs.declared.Header.the-variants as header
 use Rattle.primer.specs.declared.Entry as primer

@@ -2,7 +2,6 @@
 use Prim.Native.Nat.{ℕ}
 use mathlib.Core.List.{List, [], _∷_}
 use lib.IntN.{ℤ, pos}
-use Rattle.klv.specs.declared.Klv.{Klv}
 use Rattle.canon_sequence.specs.declared.Position.{Position}
 use Rattle.canon_sequence.specs.declared.Position.the-variants as position
 use Rattle.canon_sequence.specs.declared.Identifier.{Identifier}

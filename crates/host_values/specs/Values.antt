@@ -3,7 +3,6 @@ use Prim.Native.Nat.{ℕ}
 use mathlib.Core.List.{List, [], _∷_}
 use lib.ListN.{getD}
 use lib.Dec.{ltb}
-use Rattle.klv.specs.declared.Klv.{Klv}
 use Rattle.frames.specs.declared.Frame as frames
 use Rattle.frame.specs.declared.Single.the-variants as single
 use Rattle.frame.specs.declared.Double.the-variants as double

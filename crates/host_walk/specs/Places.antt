@@ -1,11 +1,9 @@
 -- What the lent places hold after a call: include/brinethimble.h. A refusal leaves them as they were.
 use Prim.Native.Nat.{ℕ}
 use mathlib.Core.List.{List, [], _∷_}
-use lib.ListN.{length}
 use Rattle.steps.specs.Told.{Told, found, nothing, refused}
 use Rattle.lengths.specs.declared.Length.{Length}
 use Rattle.lengths.specs.declared.Length.the-variants.{Is, Cut, None}
-use Rattle.klv.specs.declared.Klv.{Klv}
 use Rattle.klv.specs.Item.{Item}
 
 -- found, its place, its value's place and length, the next cursor

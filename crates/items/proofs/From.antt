@@ -4,7 +4,7 @@ use mathlib.Core.Path.{_≡_, sym, ap, _∙_}
 use mathlib.Core.List.{List, [], _∷_}
 use mathlib.Core.Bool.{Bool, true}
 use lib.ListN.{length}
-use Rattle.steps.specs.Told.{Told, found, nothing}
+use Rattle.steps.specs.Told.{found, nothing}
 use Rattle.steps.specs.Listed.{before, listFrom}
 use Rattle.klv.specs.declared.Klv.{Klv}
 use Rattle.klv.specs.Item.{Item, item}

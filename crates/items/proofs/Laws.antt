@@ -1,6 +1,6 @@
 -- Laws of `specs/Items.antt`: its cases, each from facts about numbers, and what holds of an item. Assumes nothing.
 use Prim.Native.Nat.{ℕ, _+_, _-_, _≤_, _<_}
-use mathlib.Core.Path.{_≡_, refl, sym, ap, _∙_}
+use mathlib.Core.Path.{_≡_, refl, sym, _∙_}
 use mathlib.Core.List.{List, [], _∷_}
 use mathlib.Core.Bool.{Bool, true, false}
 use mathlib.Core.Logic.{by-cases, ⊎-elim}
@@ -10,14 +10,13 @@ use borrow.Author.Tests.{le-leb, lt-leb}
 use lib.ListN.{length}
 use types.Run.{OneOf}
 use denote.Enum.Declared.{tagOf}
-use Rattle.steps.specs.Told.{Told, found, nothing}
+use Rattle.steps.specs.Told.{found, nothing}
 use Rattle.lengths.specs.declared.Field.{Field}
 use Rattle.lengths.specs.declared.Length.{Length}
 use Rattle.lengths.specs.declared.Length.the-variants.{Is, Cut, None}
 use Rattle.lengths.proofs.Length.{the-type}
 use Rattle.lengths.proofs.Laws.{Taken, taken, taken-two}
 use Rattle.lengths.proofs.Enums.{no-is}
-use Rattle.klv.specs.declared.Klv.{Klv}
 use Rattle.klv.specs.Item.{Item, item, klv, past}
 use Rattle.items.specs.Items.{lengthIn, byValue, byLength, itemStep}
 

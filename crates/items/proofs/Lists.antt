@@ -1,11 +1,10 @@
 -- The list of items goes as its steps say, and an answer says which. Assumes nothing.
-use Prim.Native.Nat.{ℕ, _+_, _<_}
+use Prim.Native.Nat.{ℕ}
 use mathlib.Core.Path.{_≡_, refl}
 use mathlib.Core.List.{List}
 use mathlib.Core.Bool.{Bool}
 use native.Mathlib.Omega.{arith}
 use lib.ListN.{length}
-use Rattle.steps.specs.Told.{Told, found, nothing}
 use Rattle.steps.specs.Listed.{before, listFrom}
 use Rattle.steps.proofs.Laws.{Moves, listed}
 use Rattle.klv.specs.Item.{Item, item}
@@ -15,7 +14,7 @@ use Rattle.items.specs.declared.Held.{Held}
 use Rattle.items.specs.declared.Held.the-variants as held
 use Rattle.items.specs.Items.{itemStep}
 use Rattle.items.specs.Told.{told, localTold}
-use Rattle.items.proofs.Laws.{Fit, item-fits}
+use Rattle.items.proofs.Laws.{item-fits}
 
 pub item-moves : (key : ℕ) (ber : Bool) (s : List ℕ) → Moves (itemStep key ber s) (length s)
 item-moves key ber s p i next e = omega (arith, item-fits key ber s p i next e)

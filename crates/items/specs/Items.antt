@@ -6,7 +6,6 @@ use lib.ListN.{length, getD}
 use lib.Dec.{leb, eqb}
 use Rattle.steps.specs.Told.{Told, found, nothing}
 use Rattle.steps.specs.Listed.{listFrom}
-use Rattle.lengths.specs.declared.Field.{Field}
 use Rattle.lengths.specs.declared.Length.{Length}
 use Rattle.lengths.specs.declared.Length.the-variants.{Is, Cut, None}
 use Rattle.lengths.specs.Length.{lengthAt, twoBytesAt}

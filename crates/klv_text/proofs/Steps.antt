@@ -1,6 +1,6 @@
 -- A loop of steps puts their text: what is put, and then the text of the steps that are left, is the whole. Assumes nothing.
 use Prim.Native.Nat.{ℕ, zero, suc, _-_, _<_}
-use mathlib.Core.Path.{_≡_, refl, sym, ap, _∙_}
+use mathlib.Core.Path.{_≡_, refl, sym, _∙_}
 use mathlib.Core.List.{List, [], _∷_, _++_, append-assoc}
 use native.Mathlib.Omega.{arith}
 use Rattle.steps.specs.Told.{Told, found, nothing, refused}

@@ -1,5 +1,4 @@
 -- What a pattern on a length tells in its other branch, by the variants' numbers: Is 0, Cut 1, None 2. Assumes nothing.
-use Prim.Native.Nat.{ℕ}
 use mathlib.Core.Path.{_≡_, refl}
 use mathlib.Core.List.{[], _∷_}
 use mathlib.Core.Logic.{_⊎_, inl, inr, ⊎-elim}

@@ -1,16 +1,15 @@
 -- A length is read from its own bytes alone, and no length from its first byte. Assumes nothing.
-use Prim.Native.Nat.{ℕ, _+_, _-_, _≤_, _<_}
-use mathlib.Core.Path.{_≡_, refl, sym, ap, _∙_}
+use Prim.Native.Nat.{ℕ, _+_, _-_, _≤_}
+use mathlib.Core.Path.{_≡_, _∙_}
 use mathlib.Core.List.{List}
 use native.Mathlib.Omega.{arith}
-use lib.ListN.{length, getD}
-use Rattle.parts.specs.Number.{numberAt}
+use lib.ListN.{getD}
 use Rattle.parts.proofs.Spans.{Same, within}
 use Rattle.parts.proofs.Numbers.{number-same}
 use Rattle.lengths.specs.declared.Field.{Field}
 use Rattle.lengths.specs.declared.Length.{Length}
-use Rattle.lengths.specs.declared.Length.the-variants.{Is, Cut, None}
-use Rattle.lengths.specs.Length.{field, heldAt, lengthAt}
+use Rattle.lengths.specs.declared.Length.the-variants.{Is, None}
+use Rattle.lengths.specs.Length.{lengthAt}
 use Rattle.lengths.proofs.Laws.{held, short, no-length, more, Case, c-past, c-short, c-none, c-cut, c-long, case}
 
 module _ (s t : List ℕ) (at : ℕ) where

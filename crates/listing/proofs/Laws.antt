@@ -5,7 +5,7 @@ use mathlib.Core.List.{List, [], _∷_, _++_, append-assoc, append-nil}
 use native.Mathlib.Omega.{arith}
 use borrow.Author.Tests.{eq-eqb, ne-eqb}
 use lib.ListN.{length}
-use Rattle.steps.specs.Told.{found, nothing}
+use Rattle.steps.specs.Told.{found}
 use Rattle.klv.specs.Item.{Item}
 use Rattle.walk.specs.Walk.{finishedStep}
 use Rattle.records.specs.Records.{finishedFrom, finished}

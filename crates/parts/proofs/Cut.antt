@@ -6,7 +6,7 @@ use mathlib.Core.Logic.{by-cases}
 use native.Mathlib.Nat.{pow-le-pow-right, lt-of-lt-of-le, mod-eq-of-lt}
 use native.Mathlib.Omega.{arith}
 use native.Mathlib.Decide.{decLt}
-use lib.ListN.{length, getD, take, drop, length-take, List·getD-eq-default}
+use lib.ListN.{length, take, drop, length-take, List·getD-eq-default}
 use lib.Dec.{lit<}
 use Rattle.parts.specs.Number.{numberOf}
 use Rattle.parts.specs.Bytes.{Bytes}

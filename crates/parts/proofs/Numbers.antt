@@ -1,13 +1,13 @@
 -- Laws of the numbers that bytes hold. Assumes nothing.
 use Prim.Native.Nat.{ℕ, zero, suc, _+_, _*_, _%_, _^_, _≤_, _<_}
-use mathlib.Core.Path.{_≡_, refl, sym}
+use mathlib.Core.Path.{_≡_, refl}
 use mathlib.Core.List.{List}
 use native.Mathlib.Nat.{pow-le-pow-right, lt-of-lt-of-le, pow-zero, zero-add}
 use native.Mathlib.Numerals.{add-one}
 use native.Mathlib.Omega.{arith}
-use lib.ListN.{length, getD}
+use lib.ListN.{getD}
 use lib.Dec.{lit<}
-use Rattle.parts.specs.Number.{numberAt, numberOf}
+use Rattle.parts.specs.Number.{numberAt}
 use Rattle.parts.specs.Bytes.{Bytes}
 use Rattle.parts.proofs.Spans.{Same, within}
 

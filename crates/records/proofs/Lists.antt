@@ -6,10 +6,9 @@ use mathlib.Core.Bool.{Bool, true, false}
 use mathlib.Core.Logic.{by-cases}
 use native.Mathlib.Omega.{arith}
 use native.Mathlib.Decide.{decLt}
-use lib.ListN.{length}
 use Rattle.steps.specs.Told.{Told, found, nothing}
-use Rattle.steps.specs.Listed.{before, listFrom, onward, endFrom}
-use Rattle.steps.proofs.Laws.{Moves, listed, ended}
+use Rattle.steps.specs.Listed.{before, listFrom}
+use Rattle.steps.proofs.Laws.{Moves, listed}
 use Rattle.labels.specs.Label.{keyAt}
 use Rattle.search.specs.Search.{searchFrom, waitFrom}
 use Rattle.search.proofs.Laws.{search-up, key-here, key-next}
@@ -19,8 +18,8 @@ use Rattle.walk.specs.declared.Turn.the-variants.{Stop, Search, Record}
 use Rattle.walk.specs.declared.Walked.{Walked}
 use Rattle.walk.specs.declared.Walked.the-variants.{Found, Stopped, Lost}
 use Rattle.walk.specs.Rules.{rules}
-use Rattle.walk.specs.Walk.{walked, finishedAfter, finishedBy, arrivingAfter, arrivingBy}
-use Rattle.walk.proofs.Laws.{Fit, rule-end, rule-no-key}
+use Rattle.walk.specs.Walk.{walked, finishedAfter, arrivingAfter}
+use Rattle.walk.proofs.Laws.{rule-end, rule-no-key}
 use Rattle.walk.proofs.Walking.{walk-stop, walk-record, walk-on, walk-lost, walk-fits}
 
 -- walking goes on no earlier than at the record's value

@@ -1,7 +1,7 @@
 -- Demand 2's list goes by the finished walk's steps, and the arriving list by the arriving walk's. Assumes nothing.
 use Prim.Native.Nat.{ℕ, _≤_}
 use mathlib.Core.Path.{_≡_, refl, sym, ap, _∙_}
-use mathlib.Core.List.{List, [], _∷_}
+use mathlib.Core.List.{List, []}
 use native.Mathlib.Omega.{arith}
 use lib.ListN.{length}
 use Rattle.steps.specs.Told.{Told, found, nothing, refused}

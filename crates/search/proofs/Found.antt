@@ -1,8 +1,8 @@
 -- What a search tells of the places that it passed and of where it ended, and of the bytes that begin a key's start.
 -- Assumes nothing.
 use Prim.Native.Nat.{ℕ, zero, suc, _+_, _-_, _≤_, _<_, max}
-use mathlib.Core.Path.{_≡_, refl, sym, ap, _∙_}
-use mathlib.Core.List.{List, [], _∷_, _++_}
+use mathlib.Core.Path.{_≡_, refl, sym, _∙_}
+use mathlib.Core.List.{List, _++_}
 use mathlib.Core.Bool.{Bool, true, false, cond, _&&_, false≢true}
 use mathlib.Core.Logic.{by-cases}
 use native.Mathlib.Omega.{arith}
@@ -10,11 +10,11 @@ use native.Mathlib.Decide.{decLt}
 use lib.ListN.{length, getD, drop, length-drop, List·getD-append}
 use lib.Seq.{getD-drop}
 use lib.Dec.{eqb}
-use borrow.Author.Tests.{eq-eqb, eqb-true}
+use borrow.Author.Tests.{eqb-true}
 use Rattle.labels.specs.Label.{keyAt, keyStart}
 use Rattle.labels.proofs.Beginnings.{begins-so}
-use Rattle.search.specs.Search.{keyBefore, first, firstBelow, searchFrom, keyBegins}
-use Rattle.search.proofs.Laws.{key-past, key-within}
+use Rattle.search.specs.Search.{keyBefore, first, firstBelow, keyBegins}
+use Rattle.search.proofs.Laws.{key-past}
 
 module _ (t : ℕ → Bool) where
   first-most : (n q : ℕ) → first t n q ≤ q + n

@@ -1,7 +1,7 @@
 -- The payload goes as its lines' steps say, and is never longer than the element. Assumes nothing.
-use Prim.Native.Nat.{ℕ, zero, suc, _+_, _-_, _≤_, _<_, min}
-use mathlib.Core.Path.{_≡_, refl, sym, ap, _∙_}
-use mathlib.Core.List.{List, [], _∷_, _++_, append-assoc, append-nil}
+use Prim.Native.Nat.{ℕ, zero, suc, _+_, _-_, _≤_, _<_}
+use mathlib.Core.Path.{_≡_, refl, sym, _∙_}
+use mathlib.Core.List.{List, [], _++_, append-assoc, append-nil}
 use native.Mathlib.Omega.{arith}
 use borrow.Author.Tests.{le-leb, lt-leb}
 use lib.ListN.{length, take, drop, length-append, length-take, length-drop}
@@ -13,7 +13,7 @@ use Rattle.text.proofs.Putting.{_▹_, put-none}
 use Rattle.st436.specs.declared.Line.{Line}
 use Rattle.st436.specs.Lines.{Counted, counted, lineAt, lineStep, lineCount}
 use Rattle.st436.specs.Payload.{bytesOf, payloadFrom, payloadOf, payloadSaid, payloadInto}
-use Rattle.st436.proofs.Laws.{Fit, line-fits, step-found}
+use Rattle.st436.proofs.Laws.{line-fits, step-found}
 
 -- a line's part is as long as the line says
 pub part-long : (s : List ℕ) (p : ℕ) (l : Line) (next : ℕ) → lineAt s p ≡ found l next → length (take (l .len) (drop (l .at) s)) ≡ l .len

@@ -1,7 +1,7 @@
 -- A list goes as its steps say: the fuel of `specs/Listed.antt` is enough. Assumes nothing.
 use Prim.Native.Nat.{ℕ, zero, suc, _-_, _<_}
-use mathlib.Core.Path.{_≡_, refl, sym, _∙_}
-use mathlib.Core.List.{List, [], _∷_}
+use mathlib.Core.Path.{_≡_, refl}
+use mathlib.Core.List.{List}
 use native.Mathlib.Omega.{arith}
 use Rattle.steps.specs.Told.{Told, found, nothing, refused}
 use Rattle.steps.specs.Listed.{before, atMost, listFrom, onward, endAtMost, endFrom}

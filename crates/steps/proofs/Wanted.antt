@@ -1,8 +1,7 @@
 -- Steps to wanted items go as the steps below them say, and their list is the wanted part of the list. Assumes nothing.
 use Prim.Native.Nat.{ℕ, zero, suc, _-_, _<_}
 use mathlib.Core.Path.{_≡_, refl, sym, ap, _∙_}
-use mathlib.Core.List.{List, [], _∷_}
-use mathlib.Core.Bool.{Bool, true, false, cond}
+use mathlib.Core.Bool.{Bool, true, false}
 use native.Mathlib.Omega.{arith}
 use Rattle.steps.specs.Told.{Told, found, nothing, refused}
 use Rattle.steps.specs.Listed.{before, listFrom}

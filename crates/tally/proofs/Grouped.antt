@@ -1,19 +1,19 @@
 -- The tally record by record is the tally group by group. Assumes nothing.
 use Prim.Native.Nat.{ℕ, zero, suc, _+_, _-_, _≤_, _<_}
-use mathlib.Core.Path.{_≡_, refl, sym, ap, _∙_}
-use mathlib.Core.List.{List, [], _∷_, _++_, map}
+use mathlib.Core.Path.{_≡_, refl, ap, _∙_}
+use mathlib.Core.List.{List, [], _∷_}
 use mathlib.Core.Bool.{Bool, true, false, cond}
 use mathlib.Core.Logic.{by-cases}
 use native.Mathlib.Omega.{arith}
 use native.Mathlib.Decide.{decLt}
 use borrow.Author.Tests.{le-ltb, lt-ltb}
-use lib.ListN.{length, getD, set}
+use lib.ListN.{length, getD}
 use lib.Dec.{ltb}
 use Rattle.search.specs.Search.{first, firstBelow}
 use Rattle.klv.specs.Item.{Item}
 use Rattle.records.specs.Records.{finished}
 use Rattle.tally.specs.Groups.{Groups, same, howMany, others, group, grouped, places, groupsOf}
-use Rattle.tally.specs.Adding.{groupOf, more, opened, passed, addTo}
+use Rattle.tally.specs.Adding.{more, opened, passed, addTo}
 
 -- The tally record by record
 

@@ -1,7 +1,7 @@
 -- Laws of the tally: what a call that adds a record leaves, and a loop of them. Assumes nothing.
 use Prim.Native.Nat.{ℕ, zero, suc, _+_, _-_, _≤_, _<_}
 use mathlib.Core.Path.{_≡_, refl, sym, ap, _∙_}
-use mathlib.Core.List.{List, [], _∷_, _++_}
+use mathlib.Core.List.{List, []}
 use mathlib.Core.Bool.{Bool}
 use mathlib.Core.Logic.{by-cases}
 use native.Mathlib.Numerals.{add-one}
@@ -11,7 +11,7 @@ use borrow.Author.Tests.{le-ltb, lt-ltb}
 use lib.ListN.{length, getD, take, drop, set, take-append-drop}
 use lib.Seq.{drop-drop, length-take-le, getD-take, take-set-lt, drop-set-lt, take-suc-set, getD-set-same, getD-set-other}
 use Rattle.search.specs.Search.{first, firstBelow}
-use Rattle.steps.specs.Told.{found, nothing}
+use Rattle.steps.specs.Told.{found}
 use Rattle.klv.specs.Item.{Item}
 use Rattle.walk.specs.Walk.{finishedStep}
 use Rattle.records.specs.Records.{finishedFrom}
@@ -19,7 +19,7 @@ use Rattle.records.proofs.Stepping.{finished-steps}
 use Rattle.tally.specs.declared.Tally.{Tally}
 use Rattle.tally.specs.Groups.{Groups, same, groupsOf, answerOf, front}
 use Rattle.tally.specs.Adding.{groupOf, addTo, view, Below, Kept, Added}
-use Rattle.tally.proofs.Grouped.{tallyFrom, empty, tallyOf, tally-grouped}
+use Rattle.tally.proofs.Grouped.{tallyFrom, tallyOf, tally-grouped}
 use Rattle.tally.proofs.Steps.{Next}
 
 -- tests that agree find the same place

@@ -1,11 +1,11 @@
 -- A step of the finished walk up to the buffer's end: the record that it gives lies from its cursor on, with the label
 -- that stands there, and it refuses nothing. Assumes nothing.
 use Prim.Native.Nat.{ℕ, _+_, _≤_}
-use mathlib.Core.Path.{_≡_, refl, sym, _∙_}
+use mathlib.Core.Path.{_≡_, refl}
 use mathlib.Core.List.{List}
 use native.Mathlib.Omega.{arith}
 use lib.ListN.{length}
-use Rattle.steps.specs.Told.{Told, found, nothing, refused}
+use Rattle.steps.specs.Told.{found, refused}
 use Rattle.labels.specs.Label.{labelAt}
 use Rattle.klv.specs.Item.{Item, item, past}
 use Rattle.walk.specs.declared.Walked.{Walked}

@@ -6,7 +6,6 @@ use mathlib.Core.Bool.{cond}
 use lib.ListN.{length, getD, set, take, drop}
 use lib.Dec.{ltb}
 use Rattle.search.specs.Search.{firstBelow}
-use Rattle.klv.specs.Item.{Item}
 use Rattle.tally.specs.declared.Tally.{Tally}
 use Rattle.tally.specs.Groups.{Groups, same}
 

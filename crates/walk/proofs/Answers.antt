@@ -5,7 +5,7 @@ use mathlib.Core.List.{List}
 use native.Mathlib.Omega.{arith}
 use borrow.Author.Tests.{le-ltb, lt-ltb}
 use lib.ListN.{length}
-use Rattle.steps.specs.Told.{Told, found, nothing, refused}
+use Rattle.steps.specs.Told.{found, nothing, refused}
 use Rattle.search.specs.Search.{waitFrom}
 use Rattle.klv.specs.declared.Klv.{Klv}
 use Rattle.klv.specs.Item.{Item, item, past}

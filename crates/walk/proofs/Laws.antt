@@ -13,7 +13,7 @@ use Rattle.lengths.specs.declared.Field.{Field}
 use Rattle.lengths.specs.declared.Length.{Length}
 use Rattle.lengths.specs.declared.Length.the-variants.{Is, Cut, None}
 use Rattle.lengths.specs.Length.{lengthAt}
-use Rattle.lengths.proofs.Laws.{Taken, taken}
+use Rattle.lengths.proofs.Laws.{taken}
 use Rattle.klv.specs.declared.Klv.{Klv}
 use Rattle.klv.specs.Item.{klv}
 use Rattle.walk.specs.declared.Turn.{Turn}

@@ -5,9 +5,7 @@ use mathlib.Core.Bool.{cond}
 use lib.ListN.{length}
 use lib.Dec.{ltb}
 use Rattle.steps.specs.Told.{Told, found, nothing, refused}
-use Rattle.steps.specs.Listed.{listFrom}
 use Rattle.search.specs.Search.{searchFrom, waitFrom}
-use Rattle.klv.specs.declared.Klv.{Klv}
 use Rattle.klv.specs.Item.{Item, item, past}
 use Rattle.walk.specs.declared.Turn.{Turn}
 use Rattle.walk.specs.declared.Turn.the-variants.{Stop, Search, Record}

@@ -1,5 +1,4 @@
 -- `answer_canon::package` is safe, and ends: no more values than the set has bytes.
-use Prim.Native.Nat.{_+_}
 use mathlib.Core.Path.{_≡_}
 use lib.ListN.{length}
 use borrow.Author.Needs.{needs}

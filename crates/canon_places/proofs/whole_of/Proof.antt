@@ -3,7 +3,8 @@ use mathlib.Core.Path.{ap, _∙_}
 use mir.Syntax.{w16, w64}
 use mir.Val.{SFits, toZ, ofZ}
 use mir.ValLaws.{toZ-ofZ}
-use Rattle.canon_places.specs.Slots.{twos, wholeOf}
+use Rattle.host_numbers.specs.Numbers.{twos}
+use Rattle.canon_places.specs.Slots.{wholeOf}
 use Rattle.canon_places.proofs.Signed.{wider}
 use borrow.Author.Needs.{needs}
 use Rattle.canon_places.proofs.whole_of.Statement.{statement}

@@ -1,6 +1,5 @@
 -- `canon_sets::next_item` meets its contract: the item at the run's end, by its tag.
-use Prim.Native.Nat.{_+_}
-use mathlib.Core.Path.{_≡_, sym, _∙_}
+use mathlib.Core.Path.{_≡_, sym}
 use mathlib.Core.Bool.{false}
 use native.Mathlib.Omega.{arith}
 use denote.Ref.{now}

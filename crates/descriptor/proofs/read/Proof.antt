@@ -1,17 +1,15 @@
 -- `descriptor::read` meets its contract. The loop's invariant: the items from the cursor on give what all of them give.
 use Prim.Native.Nat.{_-_}
-use mathlib.Core.Path.{_≡_, sym, ap, _∙_}
+use mathlib.Core.Path.{_≡_, sym, _∙_}
 use mathlib.Core.Bool.{false}
 use native.Mathlib.Omega.{arith}
 use lib.ListN.{length}
 use denote.Ref.{now}
 use Rattle.steps.specs.Told.{found, nothing}
-use Rattle.parts.specs.Number.{numberAt}
 use Rattle.parts.proofs.Parts.{number-there}
 use Rattle.klv.specs.Item.{item}
 use Rattle.items.specs.Items.{itemStep}
 use Rattle.items.proofs.Laws.{Fit, item-fits}
-use Rattle.descriptor.specs.Fields.{fieldsAfter}
 use Rattle.descriptor.proofs.Laws.{Going, going-start, going-next, over, cut}
 use borrow.Author.Needs.{needs}
 use Rattle.descriptor.proofs.read.Statement.{statement}

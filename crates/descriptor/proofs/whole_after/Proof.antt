@@ -1,7 +1,6 @@
 -- `descriptor::whole_after` meets its contract: an item that holds the field has its bytes.
 use denote.Ref.{now}
 use mathlib.Core.Path.{sym, _∙_}
-use mathlib.Core.Bool.{true}
 use native.Mathlib.Omega.{arith}
 use Rattle.parts.proofs.Parts.{number-there}
 use Rattle.descriptor.specs.Fields.{wholeAfter}

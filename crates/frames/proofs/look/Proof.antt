@@ -2,7 +2,7 @@
 use mathlib.Core.Path.{_≡_, sym, ap, _∙_}
 use native.Mathlib.Omega.{arith}
 use denote.Ref.{now}
-use Rattle.steps.specs.Told.{found, nothing}
+use Rattle.steps.specs.Told.{found}
 use Rattle.klv.specs.Item.{item}
 use Rattle.walk.specs.Walk.{finishedStep}
 use Rattle.walk.proofs.Answers.{found-by, nothing-by, not-refused}

@@ -1,5 +1,4 @@
 -- `header::find` meets its contract: each return is one case of the definition.
-use Prim.Native.Nat.{_+_}
 use mathlib.Core.Path.{_≡_, sym, _∙_}
 use mathlib.Core.Bool.{true}
 use native.Mathlib.Omega.{arith}

@@ -1,5 +1,5 @@
 -- `parts::number` meets its contract. The loop's invariant: the value is the low 64 bits of the number that the bytes passed hold.
-use Prim.Native.Nat.{_+_, _-_, _%_, _^_, _≤_}
+use Prim.Native.Nat.{_-_, _%_, _^_, _≤_}
 use mathlib.Core.Path.{_≡_}
 use native.Mathlib.Omega.{arith}
 use denote.Ref.{now}

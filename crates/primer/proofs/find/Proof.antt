@@ -1,9 +1,8 @@
 -- `primer::find` meets its contract. The loop's invariant: no entry from i on has the tag, so those before decide.
-use Prim.Native.Nat.{_-_, _/_, _≤_}
+use Prim.Native.Nat.{_-_, _≤_}
 use mathlib.Core.Path.{_≡_, refl, sym, ap, _∙_}
 use native.Mathlib.Omega.{arith}
 use denote.Ref.{now}
-use lib.ListN.{length}
 use Rattle.parts.specs.Number.{numberAt}
 use Rattle.parts.proofs.Parts.{number-read}
 use Rattle.primer.specs.Primer.{lastOf}

@@ -1,6 +1,6 @@
 -- `search::pair_among` meets its contract. The loop's invariant: where there was no hit, a search passes the places tested.
 use Prim.Native.Nat.{_+_, _-_, _≤_}
-use mathlib.Core.Path.{_≡_, refl}
+use mathlib.Core.Path.{_≡_}
 use mathlib.Core.Bool.{false}
 use borrow.Author.Needs.{needs}
 use native.Mathlib.Omega.{arith}

@@ -1,9 +1,8 @@
 -- `st436::length_of` meets its contract. The loop's invariant: what was counted, and the payload of the lines that are left, is the whole.
 use Prim.Native.Nat.{_+_}
-use mathlib.Core.Path.{_≡_, sym, ap, _∙_}
-use mathlib.Core.List.{_++_}
+use mathlib.Core.Path.{_≡_, sym, ap}
 use native.Mathlib.Omega.{arith}
-use lib.ListN.{length, take, drop, length-append}
+use lib.ListN.{length, length-append}
 use denote.Ref.{now}
 use Rattle.steps.specs.Told.{found}
 use Rattle.st436.specs.Lines.{lineStep}

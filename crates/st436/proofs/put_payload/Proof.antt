@@ -1,5 +1,5 @@
 -- `st436::put_payload` meets its contract. The loop's invariant: what was put, and the payload of the lines that are left, is the whole.
-use mathlib.Core.Path.{_≡_, sym}
+use mathlib.Core.Path.{sym}
 use native.Mathlib.Omega.{arith}
 use Rattle.text.proofs.Putting.{length-put}
 use Rattle.st436.proofs.Laws.{step-found}

@@ -1,12 +1,12 @@
--- `canon_places::twos` answers the number's two's complement, below 0 or not.
+-- `host_numbers::twos` answers the number's two's complement, below 0 or not.
 use mathlib.Core.Path.{ap, _∙_}
 use mir.Syntax.{w64}
 use mir.Val.{toZ, ofZ}
 use mir.ValLaws.{toZ-ofZ}
-use Rattle.canon_places.specs.Slots.{twos}
-use Rattle.canon_places.proofs.Signed.{Below, Not-below, back, negative, not-negative}
-use Rattle.canon_places.proofs.twos.Statement.{statement}
-use Rattle.canon_places.proofs.twos.Tie as tie
+use Rattle.host_numbers.specs.Numbers.{twos}
+use Rattle.host_numbers.proofs.Signed.{Below, Not-below, back, negative, not-negative}
+use Rattle.host_numbers.proofs.twos.Statement.{statement}
+use Rattle.host_numbers.proofs.twos.Tie as tie
 
 below : (c : tie.Then1) → Below (toZ w64 (ofZ w64 (c .before .args .n)))
 below c = negative _ (back _ (c .before .fits .n)) (c .if1 .taken)

@@ -1,8 +1,8 @@
--- `host_frames::mark` answers each case of the mark.
+-- `host_numbers::mark` answers each case of the flag.
 use mathlib.Core.Path.{refl}
-use Rattle.host_frames.specs.Places.{mark}
-use Rattle.host_frames.proofs.mark.Statement.{statement}
-use Rattle.host_frames.proofs.mark.Tie as tie
+use Rattle.host_numbers.specs.Numbers.{mark}
+use Rattle.host_numbers.proofs.mark.Statement.{statement}
+use Rattle.host_numbers.proofs.mark.Tie as tie
 
 returns : tie.Need-returns
 unfolding mark
