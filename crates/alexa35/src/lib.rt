@@ -7,6 +7,11 @@ ghost use mathlib.Core.Bool.{cond};
 ghost use Rattle.alexa35.specs.Said.{said, inSet, after};
 ghost use Rattle.alexa35.specs.Alexa.{doubleOr, wholeOr, distanceOr, alexaOf};
 ghost use Rattle.alexa35.specs.Values.{orientationOn, lensOn, encodersOn, captureOn, valuesOn, none, frameOf};
+use alexa35_chosen::distance_set;
+use alexa35_chosen::double_set;
+use alexa35_chosen::single_set;
+use alexa35_chosen::t_stop_set;
+use alexa35_chosen::whole_set;
 use alexa35_items::density_of;
 use alexa35_items::distance_in;
 use alexa35_items::float_in;
@@ -56,41 +61,6 @@ struct Values {
     lens: Lens,
     encoders: Encoders,
     capture: Capture,
-}
-
-// The new value where an item has the number, else the old one: it erases.
-fn single_set(hit: bool, new: Single, old: Single) -> Single
-    ensures { λ r. ⌜ r ≡ cond hit new old ⌝ }
-{
-    if hit { new } else { old }
-}
-
-// The same of an f64.
-fn double_set(hit: bool, new: Double, old: Double) -> Double
-    ensures { λ r. ⌜ r ≡ cond hit new old ⌝ }
-{
-    if hit { new } else { old }
-}
-
-// The same of a u32.
-fn whole_set(hit: bool, new: Whole32, old: Whole32) -> Whole32
-    ensures { λ r. ⌜ r ≡ cond hit new old ⌝ }
-{
-    if hit { new } else { old }
-}
-
-// The same of a distance.
-fn distance_set(hit: bool, new: Distance, old: Distance) -> Distance
-    ensures { λ r. ⌜ r ≡ cond hit new old ⌝ }
-{
-    if hit { new } else { old }
-}
-
-// The same of a T-stop.
-fn t_stop_set(hit: bool, new: TStop, old: TStop) -> TStop
-    ensures { λ r. ⌜ r ≡ cond hit new old ⌝ }
-{
-    if hit { new } else { old }
 }
 
 // The first of two f64 that is there.

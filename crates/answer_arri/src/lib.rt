@@ -1,28 +1,9 @@
-// The answers to `dynamic HEX`, `ofdynamic HEX`, `alexa HEX` and `arri END HEX`: docs/CASES.md.
+// The answers to `alexa HEX` and `arri END HEX`, and to each word of ARRI's: docs/CASES.md.
 use arri::Values;
-use arri_block::Block;
 use frames::Arri;
 use frames::ArriStep;
 use text::put_byte;
-use text::put_decimal;
 use values_text::put_values;
-
-// Puts the place of ARRI's 256 bytes in an element, or `-`.
-fn dynamic(out: &mut [u8], at: usize, s: &[u8]) -> usize {
-    let b = arri_block::find(s);
-    let Block::At(p) = b else {
-        return put_byte(out, at, b'-');
-    };
-    put_decimal(out, at, p as u64)
-}
-
-// Puts the values of an ALEXA Mini's 256 bytes; other counts of bytes are no case.
-fn of_dynamic(out: &mut [u8], at: usize, s: &[u8]) -> usize {
-    if s.len() != 256 {
-        return put_byte(out, at, b'?');
-    }
-    put_values(out, at, arri_mini::of_dynamic(s))
-}
 
 // Puts a frame's values, or `-`.
 fn put_values_of(out: &mut [u8], at: usize, s: &[u8], f: frames::Frame) -> usize {
@@ -63,8 +44,8 @@ fn arri_frames(out: &mut [u8], at: usize, s: &[u8], end: usize) -> usize {
 // Puts the answer to a case of ARRI's.
 pub fn reply(word: usize, end: usize, s: &[u8], out: &mut [u8], at: usize) -> usize {
     match word {
-        case_lines::DYNAMIC => dynamic(out, at, s),
-        case_lines::OF_DYNAMIC => of_dynamic(out, at, s),
+        case_lines::DYNAMIC => answer_values::dynamic(out, at, s),
+        case_lines::OF_DYNAMIC => answer_values::of_dynamic(out, at, s),
         case_lines::ALEXA => put_values(out, at, alexa35::of_alexa35(s)),
         case_lines::ARRI => arri_frames(out, at, s, end),
         _ => put_byte(out, at, b'?'),

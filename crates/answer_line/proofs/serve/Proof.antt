@@ -1,9 +1,9 @@
--- `answers::serve` is safe and ends: it counts its turns down, of which there are more than any input has lines.
+-- `answer_line::serve` is safe and ends: it counts its turns down, of which there are more than any input has lines.
 use mathlib.Core.Path.{_≡_}
 use lib.ListN.{length}
 use borrow.Author.Needs.{needs}
-use Rattle.answers.proofs.serve.Statement.{statement}
-use Rattle.answers.proofs.serve.Tie as tie
+use Rattle.answer_line.proofs.serve.Statement.{statement}
+use Rattle.answer_line.proofs.serve.Tie as tie
 
 abbrev Inv-loop : tie.InvT-loop
 Inv-loop chunk₀ line₀ out₀ l₀ at₀ turns₀ chunk line out l at turns = (length chunk ≡ length chunk₀) × (length line ≡ length line₀) × (length out ≡ length out₀)
