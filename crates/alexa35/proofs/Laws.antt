@@ -1,4 +1,4 @@
--- Laws of `specs/Said.antt`: what a step of an element's or a set's run leaves to be done. Assumes nothing.
+-- Laws of `specs/Items.antt`: what a step of an element's or a set's run leaves to be done. Assumes nothing.
 use Prim.Native.Nat.{ℕ}
 use mathlib.Core.Path.{_≡_, refl}
 use mathlib.Core.List.{List, [], _∷_, _++_, map}
@@ -7,7 +7,8 @@ use Rattle.steps.specs.Told.{found, nothing}
 use Rattle.klv.specs.Item.{Item, valueOf}
 use Rattle.items.specs.Items.{itemStep}
 use Rattle.items.proofs.From.{itemsFrom, no-items, one-more}
-use Rattle.alexa35.specs.Said.{Said, itemOf, inSet, inSets, after}
+use Rattle.alexa35_values.specs.Said.{Said}
+use Rattle.alexa35.specs.Items.{itemOf, inSet, inSets, after}
 
 -- a set's items from a place on, and those of an element's sets
 abbrev pub setFrom : List ℕ → ℕ → List Said

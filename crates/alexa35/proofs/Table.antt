@@ -4,10 +4,11 @@ use mathlib.Core.Path.{_≡_, refl, ap}
 use mathlib.Core.List.{List, [], _∷_}
 use mathlib.Core.Bool.{true, false}
 use Rattle.alexa35_items.specs.Kinds.{floatIn, focalLengthIn, effectiveIn, tStopIn, distanceIn, rateIn, exposureIn, wholeIn, lowIn, tintIn, densityIn}
-use Rattle.alexa35.specs.declared.Values.{Values}
-use Rattle.alexa35.specs.Said.{Said, saidIn, after, erases, keeps}
-use Rattle.alexa35.specs.Alexa.{doubleOr, wholeOr, encodersOf, frameBy, alexaOf}
-use Rattle.alexa35.specs.Values.{orientationOn, lensOn, encodersOn, captureOn, valuesOn, none, frameOf}
+use Rattle.alexa35_values.specs.declared.Values.{Values}
+use Rattle.alexa35_values.specs.Said.{Said, erases, keeps, doubleOr, wholeOr}
+use Rattle.alexa35_values.specs.Values.{orientationOn, lensOn, encodersOn, captureOn, valuesOn, none, frameOf}
+use Rattle.alexa35.specs.Items.{saidIn, after}
+use Rattle.alexa35.specs.Alexa.{encodersOf, frameBy, alexaOf}
 
 -- field by field
 byFields : Values → List Said → Values

@@ -5,7 +5,6 @@ use mathlib.Core.Bool.{true, false}
 use Rattle.frame.specs.Values.{tiltRollOf}
 use Rattle.frame.specs.declared.Double.{Double}
 use Rattle.frame.specs.declared.Whole64.{Whole64}
-use Rattle.frame.specs.declared.Distance.{Distance}
 use Rattle.frame.specs.declared.Encoders.{Encoders}
 use Rattle.frame.specs.declared.Frame.{Frame}
 use Rattle.frame.specs.declared.Single.the-variants as single
@@ -16,21 +15,8 @@ use Rattle.frame.specs.declared.Distance.the-variants as distance
 use Rattle.frame.specs.declared.TStop.the-variants as stop
 use Rattle.frame.specs.declared.Factors.the-variants as factors
 use Rattle.alexa35_items.specs.Kinds.{floatIn, focalLengthIn, effectiveIn, tStopIn, distanceIn, rateIn, exposureIn, wholeIn, lowIn, tintIn, densityIn}
-use Rattle.alexa35.specs.Said.{Said, saidIn, after, erases, keeps}
-
--- the first of two that is there
-unfoldable pub doubleOr : Double → Double → Double
-doubleOr (double.Is x) other = double.Is x
-doubleOr double.Nothing other = other
-
-unfoldable pub wholeOr : Whole64 → Whole64 → Whole64
-wholeOr (whole64.Is n) other = whole64.Is n
-wholeOr whole64.Nothing other = other
-
-unfoldable pub distanceOr : Distance → Distance → Distance
-distanceOr (distance.Metres x) other = distance.Metres x
-distanceOr distance.Infinity other = distance.Infinity
-distanceOr distance.Nothing other = other
+use Rattle.alexa35_values.specs.Said.{Said, erases, keeps, doubleOr, wholeOr, distanceOr}
+use Rattle.alexa35.specs.Items.{saidIn, after}
 
 -- an item with the number sets the value; the last one stands, and erases the others where its own is not usable
 abbrev pub last : {A : Type 0} → A → (List ℕ → A) → ℕ → List Said → A

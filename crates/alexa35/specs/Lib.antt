@@ -1,3 +1,2 @@
-pub mod Said
+pub mod Items
 pub mod Alexa
-pub mod Values

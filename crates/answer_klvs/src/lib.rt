@@ -1,5 +1,4 @@
 // The answers to `ber HEX` and `klvs HEX`: docs/CASES.md.
-ghost use mathlib.Core.Path.{_≡_};
 ghost use Rattle.text.specs.Write.{Put};
 ghost use Rattle.answer_klvs.specs.Answers.{berText, klvsText};
 use items::Found;

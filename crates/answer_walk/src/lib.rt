@@ -1,5 +1,4 @@
 // The answers to `walk END HEX`, `step END FROM HEX` and `arrive LIMIT HEX`: docs/CASES.md.
-ghost use mathlib.Core.Path.{_≡_};
 ghost use Rattle.walk.specs.Walk.{finishedStep};
 ghost use Rattle.text.specs.Write.{Put};
 ghost use Rattle.answer_walk.specs.Answers.{walkText, arriveText, stepText};

@@ -4,7 +4,6 @@
 ghost use mathlib.Core.Path.{_≡_};
 ghost use Prim.Native.Nat.{_+_, _≤_, _<_};
 ghost use lib.ListN.{length};
-ghost use Rattle.parts.specs.Number.{numberAt};
 ghost use Rattle.descriptor.specs.Fields.{holds, wholeAfter, finiteRate, rateAfter, areaAfter, fieldsAfter, noArea, empty};
 ghost use Rattle.descriptor.specs.Descriptor.{told, descriptorTold};
 use items::Coding;

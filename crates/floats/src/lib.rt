@@ -24,7 +24,7 @@
 //     (master as f64 - 32.0) * 0.5 + delta as f64 * 0.1     gain(master, delta)
 ghost use mathlib.Core.Path.{_≡_};
 ghost use Prim.Native.Nat.{_<_, _≤_, _^_, _-_, min};
-ghost use lib.Ieee.{Float, binary32, binary64, ofBits, toBits};
+ghost use lib.Ieee.{binary32, binary64, ofBits, toBits};
 ghost use lib.Ieee.Nearest.{closest};
 ghost use lib.Ieee.Scale.{finite};
 ghost use Rattle.floats.specs.Rounding.{nearestF32, narrowF32, packedBits};

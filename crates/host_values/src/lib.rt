@@ -1,6 +1,5 @@
 // What a host links of frame values: bytes in, lent arrays out, one for each type of figure (include/brinethimble.h).
 ghost use mathlib.Core.Path.{_≡_};
-ghost use lib.Dec.{ltb};
 ghost use Rattle.frame_places.specs.Places.{presentPlaces, wholePlaces, singlePlaces, doublePlaces};
 ghost use Rattle.arri_mini.specs.Dynamic.{dynamicOf};
 ghost use Rattle.alexa35.specs.Alexa.{alexaOf};

@@ -1,6 +1,5 @@
 // KLVs, cursors and refusals as text, as the listing and the answers have them: `1 060e2b340101010d0e15000100010000 18 2`
 // is the KLV at 1 whose value is the 2 bytes from 18 on.
-ghost use mathlib.Core.Path.{_≡_};
 ghost use Rattle.klv.specs.Item.{item};
 ghost use Rattle.klv_text.specs.Text.{itemText, bytesText};
 ghost use Rattle.klv_text.specs.Steps.{cursorText, refusedText};

@@ -2,7 +2,7 @@
 // arriving walk".
 ghost use mathlib.Core.Path.{_≡_};
 ghost use mathlib.Core.Bool.{true, false};
-ghost use Prim.Native.Nat.{_+_, _≤_, _<_, min};
+ghost use Prim.Native.Nat.{_+_, _≤_, _<_};
 ghost use lib.ListN.{length};
 ghost use Rattle.labels.specs.Label.{keyAt};
 ghost use Rattle.search.specs.Search.{searchFrom, nextKey, keyBegins, waitFrom, Passes};

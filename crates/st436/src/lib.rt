@@ -6,7 +6,7 @@ ghost use mathlib.Core.Path.{_≡_};
 ghost use Prim.Native.Nat.{_+_, _≤_, _<_};
 ghost use lib.ListN.{length, take, drop};
 ghost use Rattle.text.specs.Write.{Put};
-ghost use Rattle.st436.specs.Lines.{lineCount, ofBytes, cutTo, payloadLength, arrayCount, lineAt, lineStep};
+ghost use Rattle.st436.specs.Lines.{lineCount, ofBytes, payloadLength, arrayCount, lineAt, lineStep};
 ghost use Rattle.st436.specs.Payload.{payloadOf, payloadSaid, payloadInto};
 ghost use Rattle.st436.specs.Told.{firstLine, wholeTold, told, said};
 use parts::number_at;

@@ -11,8 +11,9 @@ use Rattle.items.specs.Items.{itemStep, runOf}
 use Rattle.items.proofs.Laws.{item-fits}
 use Rattle.items.proofs.From.{run-item, run-end}
 use Rattle.alexa35_items.specs.Kinds.{numberIn}
-use Rattle.alexa35.specs.Values.{valuesOn}
-use Rattle.alexa35.specs.Said.{said, inSet, after}
+use Rattle.alexa35_values.specs.Said.{said}
+use Rattle.alexa35_values.specs.Values.{valuesOn}
+use Rattle.alexa35.specs.Items.{inSet, after}
 use Rattle.alexa35.proofs.Laws.{setFrom, set-end, set-more}
 use borrow.Author.Needs.{needs}
 use Rattle.alexa35.proofs.after_set.Statement.{statement}

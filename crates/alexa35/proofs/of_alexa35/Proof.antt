@@ -11,8 +11,8 @@ use Rattle.klv.specs.Item.{item}
 use Rattle.items.specs.Items.{itemStep, runOf}
 use Rattle.items.proofs.Laws.{item-fits}
 use Rattle.items.proofs.From.{run-item, run-end}
-use Rattle.alexa35.specs.Values.{valuesOn, none, frameOf}
-use Rattle.alexa35.specs.Said.{inSet, saidIn, after}
+use Rattle.alexa35_values.specs.Values.{valuesOn, none, frameOf}
+use Rattle.alexa35.specs.Items.{inSet, saidIn, after}
 use Rattle.alexa35.proofs.Table.{table}
 use Rattle.alexa35.proofs.Laws.{setsFrom, sets-end, sets-more}
 use borrow.Author.Needs.{needs}
