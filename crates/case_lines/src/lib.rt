@@ -46,7 +46,7 @@ pub const SEQUENCE: usize = 19;
 
 pub const CANON: usize = 20;
 
-// A case: its word's number, its numbers, and how many bytes it has.
+// A case: its word's number, 0 where a line is none, its numbers, and how many bytes it has.
 pub struct Case {
     pub word: usize,
     pub a: u64,
@@ -54,11 +54,13 @@ pub struct Case {
     pub n: usize,
 }
 
-// What a line is.
-pub enum Line {
-    Is(Case),
-    Nothing,
-}
+// No case.
+const NOTHING: Case = Case {
+    word: 0,
+    a: 0,
+    b: 0,
+    n: 0,
+};
 
 // The words in the order of their numbers, ten bytes each.
 const WORDS: [u8; 200] =
@@ -124,21 +126,22 @@ fn second_number(rest: &[u8], word: usize) -> Number {
     text::decimal(head(tail(rest)))
 }
 
-// The case that a line is, with its bytes put at the start of a buffer.
-pub fn read(line: &[u8], bytes: &mut [u8]) -> Line {
-    let word = word_of(head(line));
-    if word == 0 {
-        return Line::Nothing;
+// The case that a line of len bytes is, with its bytes put at the start of a buffer; none where the line has not all of them.
+pub fn read(line: &[u8], len: usize, bytes: &mut [u8]) -> Case {
+    if line.len() < len {
+        return NOTHING;
     }
-    let rest = tail(line);
+    let l = part(line, 0, len);
+    let word = word_of(head(l));
+    let rest = tail(l);
     let Bytes::Are(n) = cases::bytes_in(last_field(rest, numbers(word)), bytes) else {
-        return Line::Nothing;
+        return NOTHING;
     };
     let Number::Is(a) = first_number(rest, word, n as u64) else {
-        return Line::Nothing;
+        return NOTHING;
     };
     let Number::Is(b) = second_number(rest, word) else {
-        return Line::Nothing;
+        return NOTHING;
     };
-    Line::Is(Case { word, a, b, n })
+    Case { word, a, b, n }
 }

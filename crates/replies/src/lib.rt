@@ -9,16 +9,6 @@ fn items(out: &mut [u8], at: usize, s: &[u8], coding: usize) -> usize {
     answer_tables::items_of(out, at, s, coding == 1)
 }
 
-// Puts the answer to a case of the tables'.
-fn tables(word: usize, a: usize, s: &[u8], out: &mut [u8], at: usize) -> usize {
-    match word {
-        case_lines::HEADER => answer_tables::header_of(out, at, s),
-        case_lines::PRIMER => answer_tables::primer_of(out, at, s),
-        case_lines::ITEMS => items(out, at, s, a),
-        _ => text::put_byte(out, at, b'?'),
-    }
-}
-
 // Puts the answer to a case over its bytes.
 pub fn reply(c: Case, s: &[u8], out: &mut [u8], at: usize) -> usize {
     let word = c.word;
@@ -31,6 +21,9 @@ pub fn reply(c: Case, s: &[u8], out: &mut [u8], at: usize) -> usize {
         case_lines::STEP => answer_walk::step(out, at, s, a, b),
         case_lines::ARRIVE => answer_walk::arrive(out, at, s, a),
         case_lines::TALLY => answer_tally::tally(out, at, s),
-        _ => tables(word, a, s, out, at),
+        case_lines::HEADER => answer_tables::header_of(out, at, s),
+        case_lines::PRIMER => answer_tables::primer_of(out, at, s),
+        case_lines::ITEMS => items(out, at, s, a),
+        _ => text::put_byte(out, at, b'?'),
     }
 }
