@@ -1,8 +1,9 @@
 -- Laws of `specs/Label.antt`. Assumes nothing.
-use Prim.Native.Nat.{ℕ, _+_, _-_, _<_}
-use mathlib.Core.Path.{_≡_}
+use Prim.Native.Nat.{ℕ, zero, suc, _+_, _-_, _<_}
+use mathlib.Core.Path.{_≡_, sym}
 use mathlib.Core.List.{List}
 use mathlib.Core.Bool.{false, _&&_, _||_, and-false}
+use native.Mathlib.Nat.{add-zero, add-suc}
 use native.Mathlib.Numerals.{add-one}
 use native.Mathlib.Omega.{arith}
 use borrow.Author.Tests.{eq-eqb, ne-eqb}
@@ -16,6 +17,12 @@ module _ (x y z : ℕ) (a b : List ℕ) where
   pub agree-more : (n : ℕ) → (firstAgree x y z a b n && ((eqb n x || (eqb n y || eqb n z)) || eqb (getD a n 0) (getD b n 0))) ≡ firstAgree x y z a b (n + 1)
   unfolding firstAgree
   agree-more n = rw add-one
+
+  -- where some disagree, so do more
+  pub agree-fails : (n m : ℕ) → false ≡ firstAgree x y z a b n → false ≡ firstAgree x y z a b (n + m)
+  unfolding firstAgree
+  agree-fails n zero h = rw (add-zero n) h
+  agree-fails n (suc m) h = rw (add-suc n m, sym (agree-fails n m h))
 
   pub agree-other-a : (length a ≡ 16 → ⊥) → false ≡ agreeBut x y z a b
   unfolding agreeBut
