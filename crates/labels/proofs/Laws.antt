@@ -1,8 +1,8 @@
 -- Laws of `specs/Label.antt`. Assumes nothing.
-use Prim.Native.Nat.{ℕ, zero, suc, _+_, _-_, _<_}
-use mathlib.Core.Path.{_≡_, sym}
+use Prim.Native.Nat.{ℕ, zero, suc, _+_, _-_, _≤_, _<_}
+use mathlib.Core.Path.{_≡_, refl, sym, _∙_}
 use mathlib.Core.List.{List}
-use mathlib.Core.Bool.{false, _&&_, _||_, and-false}
+use mathlib.Core.Bool.{Bool, true, false, not, _&&_, _||_, and-false}
 use native.Mathlib.Nat.{add-zero, add-suc}
 use native.Mathlib.Numerals.{add-one}
 use native.Mathlib.Omega.{arith}
@@ -19,7 +19,7 @@ module _ (x y z : ℕ) (a b : List ℕ) where
   agree-more n = rw add-one
 
   -- where some disagree, so do more
-  pub agree-fails : (n m : ℕ) → false ≡ firstAgree x y z a b n → false ≡ firstAgree x y z a b (n + m)
+  agree-fails : (n m : ℕ) → false ≡ firstAgree x y z a b n → false ≡ firstAgree x y z a b (n + m)
   unfolding firstAgree
   agree-fails n zero h = rw (add-zero n) h
   agree-fails n (suc m) h = rw (add-suc n m, sym (agree-fails n m h))
@@ -35,6 +35,17 @@ module _ (x y z : ℕ) (a b : List ℕ) where
   pub agree-sixteen : length a ≡ 16 → length b ≡ 16 → firstAgree x y z a b 16 ≡ agreeBut x y z a b
   unfolding agreeBut
   agree-sixteen h k = rw (eq-eqb _ _ h, eq-eqb _ _ k)
+
+  pub agree-early : (i : ℕ) → i ≤ 16 → false ≡ firstAgree x y z a b i → length a ≡ 16 → length b ≡ 16 → false ≡ agreeBut x y z a b
+  agree-early i m h k l =
+      let e : i + (16 - i) ≡ 16 = omega arith in
+      rw e at (agree-fails i (16 - i) h) ∙ agree-sixteen k l
+
+-- a test that wants a false one
+pub unmet : (p t : Bool) → (p && not t) ≡ true → false ≡ t
+unmet p false e = refl
+unmet true true e = e
+unmet false true e = e
 
 -- a key's start is read from its four bytes alone
 pub key-same : (s t : List ℕ) (q : ℕ) → Same s t q 4 → keyAt t q ≡ keyAt s q

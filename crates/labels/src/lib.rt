@@ -1,10 +1,7 @@
 // Labels: document 01, "Lengths and labels". Two labels are the same when both have 16 bytes and agree in all but the
 // byte at 7.
 ghost use mathlib.Core.Path.{_≡_};
-ghost use mathlib.Core.Bool.{true};
-ghost use Prim.Native.Nat.{_≤_};
-ghost use lib.ListN.{length};
-ghost use Rattle.labels.specs.Label.{beginning, firstAgree, agreeBut, sameLabel, labelAt};
+ghost use Rattle.labels.specs.Label.{beginning, agreeBut, sameLabel, labelAt};
 
 // What every key starts with: a SMPTE universal label's first bytes (ST 336).
 pub const KEY_START: [u8; 4] = *b"\x06\x0e\x2b\x34";
@@ -33,24 +30,8 @@ pub fn begins(l: &[u8], k: &[u8]) -> bool
     true
 }
 
-// Whether bytes of two labels agree up to a place, but for those at three places, where those up to an earlier place do. No
-// branch on a byte, so that many are compared at once.
-fn agree_to(a: &[u8], b: &[u8], x: usize, y: usize, z: usize, from: usize, to: usize) -> bool
-    requires { ⌜ (to ≤ length (now a)) × (to ≤ length (now b)) × (from ≤ to) ⌝ }
-    requires { ⌜ true ≡ firstAgree x y z (now a) (now b) from ⌝ }
-    ensures { λ r. ⌜ r ≡ firstAgree x y z (now (a .entry)) (now (b .entry)) to ⌝ }
-{
-    let mut agree = true;
-    let mut i = from;
-    while i < to {
-        agree = agree & (((i == x) | ((i == y) | (i == z))) | (a[i] == b[i]));
-        i += 1;
-    }
-    agree
-}
-
-// Whether two labels have 16 bytes each and agree in all but those at three places. In two halves: with one place left out of
-// all 16 the compiler would gather the others one by one.
+// Whether two labels have 16 bytes each and agree in all but those at three places. No branch on a byte but the one between the
+// halves, so that eight are compared at once: where one of all 16 is left out, the compiler gathers the others one by one.
 pub fn agree_but(a: &[u8], b: &[u8], x: usize, y: usize, z: usize) -> bool
     ensures { λ r. ⌜ r ≡ agreeBut x y z (now (a .entry)) (now (b .entry)) ⌝ }
 {
@@ -60,10 +41,16 @@ pub fn agree_but(a: &[u8], b: &[u8], x: usize, y: usize, z: usize) -> bool
     if b.len() != 16 {
         return false;
     }
-    if agree_to(a, b, x, y, z, 0, 8) {
-        return agree_to(a, b, x, y, z, 8, 16);
+    let mut agree = true;
+    let mut i = 0;
+    while i < 16 {
+        if (i == 8) & !agree {
+            return false;
+        }
+        agree = agree & (((i == x) | ((i == y) | (i == z))) | (a[i] == b[i]));
+        i += 1;
     }
-    false
+    agree
 }
 
 // Whether two labels are the same: the byte at 7, the registry's version, doesn't count.

@@ -1,32 +1,70 @@
--- `labels::agree_but` meets its contract: half by half.
-use mathlib.Core.Path.{refl, sym, _∙_}
+-- `labels::agree_but` meets its contract. The loop's invariant: `agree` says whether the bytes passed agree.
+use Prim.Native.Nat.{_-_, _≤_}
+use mathlib.Core.Path.{_≡_, refl, _∙_}
 use native.Mathlib.Omega.{arith}
+use lib.Dec.{eqb}
 use Rattle.labels.specs.Label.{firstAgree}
-use Rattle.labels.proofs.Laws.{agree-fails, agree-other-a, agree-other-b, agree-sixteen}
+use Rattle.labels.proofs.Laws.{agree-more, agree-early, agree-other-a, agree-other-b, agree-sixteen, unmet}
+use borrow.Author.Needs.{needs}
 use Rattle.labels.proofs.agree_but.Statement.{statement}
 use Rattle.labels.proofs.agree_but.Tie as tie
 
-returns : tie.Need-returns
+abbrev Inv-loop : tie.InvT-loop
+Inv-loop a b x y z agree₀ i₀ agree i = (i ≤ 16) × (agree ≡ firstAgree x y z a b i)
+
+abbrev μ-loop : tie.MeasureT-loop
+μ-loop a b x y z agree₀ i₀ agree i = 16 - i
+
+returns : tie.Need-returns Inv-loop μ-loop
 returns c = agree-other-a _ _ _ _ _ (omega arith)
 
-returns-2 : tie.Need-returns-2
+returns-2 : tie.Need-returns-2 Inv-loop μ-loop
 returns-2 c = agree-other-b _ _ _ _ _ (omega arith) (omega arith)
 
-agree-to-requires : tie.Need-agree-to-requires
+loop-holds : tie.Need-loop-holds Inv-loop μ-loop
 unfolding firstAgree
-agree-to-requires c κs = ((omega arith, omega arith, omega arith), refl)
+loop-holds c = (omega arith, refl)
 
-agree-to-requires-2 : tie.Need-agree-to-requires-2
-agree-to-requires-2 c κs = ((omega arith, omega arith, omega arith), sym (c .if3 .taken) ∙ c .before .agree-to .ensures)
+returns-3 : tie.Need-returns-3 Inv-loop μ-loop
+returns-3 c =
+    let w = c .before .before in
+    agree-early _ _ _ _ _ _ (omega arith) (unmet (eqb (w .loop .i) 8) _ (c .if3 .taken) ∙ w .loop .inv .1) (omega arith) (omega arith)
 
-returns-3 : tie.Need-returns-3
-returns-3 c = c .agree-to2 .ensures ∙ agree-sixteen _ _ _ _ _ (omega arith) (omega arith)
+shared-slice-read-agree : tie.Need-shared-slice-read-agree Inv-loop μ-loop
+shared-slice-read-agree c = search needs
 
-returns-4 : tie.Need-returns-4
+shared-slice-read-agree-2 : tie.Need-shared-slice-read-agree-2 Inv-loop μ-loop
+shared-slice-read-agree-2 c = search needs
+
+add-i : tie.Need-add-i Inv-loop μ-loop
+add-i c = search needs
+
+loop-less : tie.Need-loop-less Inv-loop μ-loop
+loop-less c = search needs
+
+loop-again : tie.Need-loop-again Inv-loop μ-loop
+loop-again c =
+    let w = c .before .before .before .before in
+    (omega arith, rw (w .loop .inv .1) (agree-more _ _ _ _ _ _))
+
+returns-4 : tie.Need-returns-4 Inv-loop μ-loop
 returns-4 c =
-    agree-fails _ _ _ _ _ 8 8 (sym (c .if3 .left) ∙ c .before .agree-to .ensures) ∙ agree-sixteen _ _ _ _ _ (omega arith) (omega arith)
+    let e : c .before .loop .i ≡ 16 = omega arith in
+    rw e at (c .before .loop .inv .1) ∙ agree-sixteen _ _ _ _ _ (omega arith) (omega arith)
 
 pub agree-but-spec : {M : Type 1} → statement M
 agree-but-spec =
     tie.close
-    (tie.spec returns returns-2 agree-to-requires agree-to-requires-2 returns-3 returns-4)
+    (tie.spec
+    Inv-loop
+    μ-loop
+    returns
+    returns-2
+    loop-holds
+    returns-3
+    shared-slice-read-agree
+    shared-slice-read-agree-2
+    add-i
+    loop-less
+    loop-again
+    returns-4)
