@@ -18,8 +18,8 @@ use Rattle.tally.proofs.Steps.{Next, next, never-refused}
 use Rattle.text.specs.Write.{decimalOf, hexOf, Put}
 use Rattle.text.proofs.Sizes.{length-decimal, length-hex, put-whole}
 use Rattle.klv_text.specs.Text.{itemText}
-use Rattle.klv_text.specs.Groups.{eachGroup}
-use Rattle.listing.specs.Listing.{recordLines, countLine, groupLine, groupLines, otherLine, tallyLines, listingOf}
+use Rattle.tally_text.specs.Groups.{groupText, eachGroup, groupsText}
+use Rattle.listing.specs.Listing.{recordLines, countLine, otherLine, tallyLines, listingOf}
 
 label-length : (s : List ℕ) (p : ℕ) → length (hexOf (labelAt s p)) ≤ 32
 label-length s p = omega (arith, length-hex (labelAt s p), length-take 16 (drop p s))
@@ -47,15 +47,11 @@ records-length s (suc n) p h = by-step (finishedStep s (length s) p) refl (recor
     by-step (nothing q) t more = rw (finished-steps s (length s) (omega arith) .over p q t) (omega arith)
     by-step (refused m q) t more = absurd (never-refused s p m q t)
 
-group-length : (s : List ℕ) (p n : ℕ) → length (groupLine s p n) ≤ 60
-unfolding groupLine
-group-length s p n = simp length-append (omega (arith, label-length s p, length-decimal n))
-
-groups-length : (s f c : List ℕ) → length (groupLines s f c) ≤ 60 * length f
-unfolding eachGroup
+groups-length : (s f c : List ℕ) → length (eachGroup (groupText (108 ∷ 97 ∷ 98 ∷ 101 ∷ 108 ∷ 32 ∷ []) 32 10 s) f c) ≤ 60 * length f
+unfolding eachGroup groupText
 groups-length s [] c = omega arith
 groups-length s (p ∷ f) [] = omega arith
-groups-length s (p ∷ f) (n ∷ c) = rw (length-append (groupLine s p n) (groupLines s f c)) (omega (arith, group-length s p n, groups-length s f c))
+groups-length s (p ∷ f) (n ∷ c) = simp length-append (omega (arith, label-length s p, length-decimal n, groups-length s f c))
 
 grouped-few : (s : List ℕ) (n : ℕ) (l : List ℕ) → length (grouped s n l .firsts) ≤ n
 unfolding grouped
@@ -76,7 +72,7 @@ other-length n = by-test (eqb n 0)
     by-test false = simp length-append (omega (arith, length-decimal n))
 
 pub fits : (s : List ℕ) → length s ≤ 65536 → length (listingOf s) ≤ 393216
-unfolding listingOf countLine tallyLines
+unfolding listingOf countLine tallyLines groupsText
 fits s h =
     let g = groupsOf s in
     simp length-append

@@ -4,13 +4,12 @@ use mathlib.Core.List.{List, [], _∷_, _++_}
 use mathlib.Core.Bool.{cond}
 use lib.Dec.{eqb}
 use lib.ListN.{length}
-use Rattle.labels.specs.Label.{labelAt}
 use Rattle.klv.specs.Item.{Item}
 use Rattle.records.specs.Records.{finished}
 use Rattle.tally.specs.Groups.{Groups, groupsOf}
-use Rattle.text.specs.Write.{decimalOf, hexOf}
+use Rattle.text.specs.Write.{decimalOf}
 use Rattle.klv_text.specs.Text.{itemText}
-use Rattle.klv_text.specs.Groups.{eachGroup}
+use Rattle.tally_text.specs.Groups.{groupsText}
 
 -- a line for each record
 unfoldable pub recordLines : List Item → List ℕ
@@ -21,20 +20,13 @@ recordLines (i ∷ l) = itemText 32 i ++ (10 ∷ []) ++ recordLines l
 unfoldable pub countLine : ℕ → List ℕ
 countLine n = (114 ∷ 101 ∷ 99 ∷ 111 ∷ 114 ∷ 100 ∷ 115 ∷ 32 ∷ []) ++ decimalOf n ++ (10 ∷ [])
 
--- `label HEX N`
-unfoldable pub groupLine : List ℕ → ℕ → ℕ → List ℕ
-groupLine s first n = (108 ∷ 97 ∷ 98 ∷ 101 ∷ 108 ∷ 32 ∷ []) ++ hexOf (labelAt s first) ++ (32 ∷ []) ++ decimalOf n ++ (10 ∷ [])
-
--- a line for each group
-abbrev pub groupLines : List ℕ → List ℕ → List ℕ → List ℕ
-groupLines s firsts counts = eachGroup (groupLine s) firsts counts
-
 -- `other N`, only when N is above 0
 unfoldable pub otherLine : ℕ → List ℕ
 otherLine n = cond (eqb n 0) [] ((111 ∷ 116 ∷ 104 ∷ 101 ∷ 114 ∷ 32 ∷ []) ++ decimalOf n ++ (10 ∷ []))
 
+-- `label HEX N` for each group, and then that
 unfoldable pub tallyLines : List ℕ → Groups → List ℕ
-tallyLines s g = groupLines s (g .firsts) (g .counts) ++ otherLine (g .other)
+tallyLines s g = groupsText (108 ∷ 97 ∷ 98 ∷ 101 ∷ 108 ∷ 32 ∷ []) 32 10 s g ++ otherLine (g .other)
 
 -- the whole text for s
 unfoldable pub listingOf : List ℕ → List ℕ

@@ -5,12 +5,11 @@ ghost use lib.ListN.{length};
 ghost use Rattle.text.specs.Write.{Put};
 ghost use Rattle.records.specs.Records.{finished};
 ghost use Rattle.tally.specs.Groups.{groupsOf};
-ghost use Rattle.listing.specs.Listing.{recordLines, countLine, groupLine, groupLines, otherLine, tallyLines, listingOf};
+ghost use Rattle.listing.specs.Listing.{recordLines, countLine, otherLine, tallyLines, listingOf};
 use klv_text::put_klv;
 use text::put_all;
 use text::put_byte;
 use text::put_decimal;
-use text::put_hex;
 use walk::Cursor;
 use walk::Step;
 
@@ -53,31 +52,6 @@ fn put_count(out: &mut [u8], at: usize, n: usize) -> usize
     put_byte(out, b, b'\n')
 }
 
-// Puts `label HEX N`.
-fn put_group(out: &mut [u8], at: usize, s: &[u8], first: usize, n: usize) -> usize
-    ensures { λ r. ⌜ Put (groupLine (now (s .entry)) first n) (now (out .entry)) at (now (out .exit)) r ⌝ }
-{
-    let a = put_all(out, at, b"label ");
-    let b = put_hex(out, a, labels::label(s, first));
-    let c = put_byte(out, b, b' ');
-    let d = put_decimal(out, c, n as u64);
-    put_byte(out, d, b'\n')
-}
-
-// Puts a line for each group.
-fn put_groups(out: &mut [u8], at: usize, s: &[u8], firsts: &[usize], counts: &[usize]) -> usize
-    requires { ⌜ length (now firsts) ≡ length (now counts) ⌝ }
-    ensures { λ r. ⌜ Put (groupLines (now (s .entry)) (now (firsts .entry)) (now (counts .entry))) (now (out .entry)) at (now (out .exit)) r ⌝ }
-{
-    let mut p = at;
-    let mut j = 0;
-    while j < firsts.len() {
-        p = put_group(out, p, s, firsts[j], counts[j]);
-        j += 1;
-    }
-    p
-}
-
 // Puts `other N`, where N is above 0.
 fn put_other(out: &mut [u8], at: usize, n: usize) -> usize
     ensures { λ r. ⌜ Put (otherLine n) (now (out .entry)) at (now (out .exit)) r ⌝ }
@@ -94,12 +68,8 @@ fn put_other(out: &mut [u8], at: usize, n: usize) -> usize
 fn put_tally(out: &mut [u8], at: usize, s: &[u8]) -> usize
     ensures { λ r. ⌜ Put (tallyLines (now (s .entry)) (groupsOf (now (s .entry)))) (now (out .entry)) at (now (out .exit)) r ⌝ }
 {
-    let mut firsts = [0usize; 64];
-    let mut counts = [0usize; 64];
-    let t = tally::count_all(s, &mut firsts, &mut counts);
-    let n = t.groups;
-    let a = put_groups(out, at, s, &firsts[..n], &counts[..n]);
-    put_other(out, a, t.other)
+    let t = tally_text::put_tally(out, at, b"label ", b' ', b'\n', s);
+    put_other(out, t.at, t.other)
 }
 
 // Puts the whole listing of s at the start of out, as much of it as there is room for.

@@ -1,7 +1,7 @@
 // The bytes at a place: a part of the buffer, cut to what is there, and the number that bytes hold.
 // Document 01: "numbers are big-endian"; "`vec![0; length]`: parts of the buffer".
 ghost use mathlib.Core.Path.{_≡_};
-ghost use Prim.Native.Nat.{_%_, _^_, min};
+ghost use Prim.Native.Nat.{_-_, _%_, _^_, min};
 ghost use lib.ListN.{take, drop};
 ghost use Rattle.parts.specs.Number.{numberOf};
 
@@ -10,6 +10,13 @@ pub fn lesser(a: usize, b: usize) -> usize
     ensures { λ r. ⌜ r ≡ min a b ⌝ }
 {
     if a <= b { a } else { b }
+}
+
+// a - b, or 0 where b is the larger.
+pub fn less(a: usize, b: usize) -> usize
+    ensures { λ r. ⌜ r ≡ a - b ⌝ }
+{
+    if b <= a { a - b } else { 0 }
 }
 
 // The part of at most len bytes from a place on: as much of it as is there.

@@ -5,12 +5,14 @@
 ghost use mathlib.Core.Path.{_≡_};
 ghost use mathlib.Core.Bool.{true};
 ghost use mathlib.Core.List.{[], _∷_};
-ghost use Prim.Native.Nat.{_+_, _-_, _*_, _≤_, _<_};
+ghost use Prim.Native.Nat.{_+_, _*_, _≤_, _<_};
 ghost use lib.ListN.{length};
 ghost use lib.Seq.{sets};
 ghost use Rattle.io.specs.Digits.{glyph};
 ghost use Rattle.text.specs.Write.{decimalOf, hexOf, hexNumber, Put};
 ghost use Rattle.text.specs.Read.{digitOf, allDigits, decimalIn, bytesOf, hexIn, hexInto};
+use parts::less;
+use parts::wide;
 
 // Puts one byte.
 pub fn put_byte(out: &mut [u8], at: usize, b: u8) -> usize
@@ -86,13 +88,6 @@ pub fn put_hex(out: &mut [u8], at: usize, s: &[u8]) -> usize
     p
 }
 
-// a - b, or 0 where b is the larger.
-fn less(a: usize, b: usize) -> usize
-    ensures { λ r. ⌜ r ≡ a - b ⌝ }
-{
-    if b <= a { a - b } else { 0 }
-}
-
 // Puts the last digits of a number in lowercase hex, that many of them; above 16 is as 16.
 pub fn put_hex_number(out: &mut [u8], at: usize, n: u64, count: usize) -> usize
     ensures { λ r. ⌜ Put (hexNumber count n) (now (out .entry)) at (now (out .exit)) r ⌝ }
@@ -140,12 +135,6 @@ fn all_digits(s: &[u8], base: u8) -> bool
 pub enum Number {
     Is(u64),
     Nothing,
-}
-
-fn wide(b: u8) -> u64
-    ensures { λ r. ⌜ r ≡ b ⌝ }
-{
-    b as u64
 }
 
 // The number that s is in decimal: one digit or more, zeros in front or not, below 2^64.

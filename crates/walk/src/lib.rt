@@ -1,20 +1,14 @@
 // The walk over the KLVs of a buffer: document 01, "The walk". A finished walk has a buffer and an end; the arriving walk
 // has the bytes that have arrived and a limit. Both are these rules at a place, and a search between places.
 ghost use mathlib.Core.Path.{_≡_};
-ghost use Prim.Native.Nat.{_-_, _≤_, max};
+ghost use Prim.Native.Nat.{_≤_, max};
 ghost use lib.ListN.{length};
 ghost use Rattle.walk.specs.Rules.{rules};
 ghost use Rattle.walk.specs.Walk.{walked, finishedStep, arrivingStep};
 ghost use Rattle.walk.specs.Told.{stepTold, arrivedTold};
 use klv::Klv;
 use lengths::Length;
-
-// a - b, or 0 where b is the larger.
-fn less(a: usize, b: usize) -> usize
-    ensures { λ r. ⌜ r ≡ a - b ⌝ }
-{
-    if b <= a { a - b } else { 0 }
-}
+use parts::less;
 
 // The larger of two.
 fn larger(a: usize, b: usize) -> usize

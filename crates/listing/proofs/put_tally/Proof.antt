@@ -1,38 +1,15 @@
--- `listing::put_tally` puts the tally: the first parts of the lent lists are the groups' own.
-use mathlib.Core.Path.{sym, ap, _∙_}
-use denote.Ref.{now}
-use Rattle.tally.specs.declared.Tally.{Tally}
+-- `listing::put_tally` puts the groups, and then what is in none of them.
 use Rattle.text.proofs.Putting.{_▹_}
 use Rattle.listing.specs.Listing.{tallyLines}
-use Rattle.tally.proofs.Lent.{Lent, lent}
 use borrow.Author.Needs.{needs}
 use Rattle.listing.proofs.put_tally.Statement.{statement}
 use Rattle.listing.proofs.put_tally.Tie as tie
 
--- what is known once the tally is made
-abbrev s-of : tie.After-count-all → tie.Start
-s-of c = c .before .before .before .before .before
+slice-aggregate-put-tally : tie.Need-slice-aggregate-put-tally
+slice-aggregate-put-tally c = search needs
 
-known : (c : tie.After-count-all) → Lent (now (s-of c .args .s)) (c .count-all .result .groups) (c .count-all .last .1 .0) (c .count-all .last .1 .1 .0)
-known c = let e = c .count-all .ensures in lent _ _ _ _ _ _ (e .0) (e .1 .0) (e .1 .1)
-
-count-all-requires : tie.Need-count-all-requires
-count-all-requires c κs = search needs
-
-array-share-prefix-firsts : tie.Need-array-share-prefix-firsts
-array-share-prefix-firsts c = known (c .before) .within-f
-
-slice-aggregate-put-groups : tie.Need-slice-aggregate-put-groups
-slice-aggregate-put-groups c = known (c .before .before) .long-f
-
-array-share-prefix-counts : tie.Need-array-share-prefix-counts
-array-share-prefix-counts c = known (c .before .before) .within-c
-
-slice-aggregate-put-groups-2 : tie.Need-slice-aggregate-put-groups-2
-slice-aggregate-put-groups-2 c = known (c .before .before .before) .long-c
-
-put-groups-requires : tie.Need-put-groups-requires
-put-groups-requires c κs = let k = known (c .before .before .before) in sym (k .long-f) ∙ k .long-c
+put-tally-requires : tie.Need-put-tally-requires
+put-tally-requires c κs = search needs
 
 put-other-requires : tie.Need-put-other-requires
 put-other-requires c κs = search needs
@@ -43,20 +20,11 @@ same-length c = search needs
 returns : tie.Need-returns
 unfolding tallyLines
 returns c =
-    let a = c .before .before .before .before .before .before .before .before .before .before in
-    (rw (known a .counts) at (rw (known a .firsts) at (c .before .before .before .before .before .before .put-groups .ensures)))
-    ▹ (rw (ap (λ (t : Tally). t .other) (a .count-all .ensures .0)) at (c .before .before .put-other .ensures))
+    let p = c .before .before in
+    let t = p .before .before .before .before in
+    t .put-tally .ensures .0 ▹ (rw (t .put-tally .ensures .1) at (p .put-other .ensures))
 
 pub put-tally-spec : {M : Type 1} → statement M
 put-tally-spec =
     tie.close
-    (tie.spec
-    count-all-requires
-    array-share-prefix-firsts
-    slice-aggregate-put-groups
-    array-share-prefix-counts
-    slice-aggregate-put-groups-2
-    put-groups-requires
-    put-other-requires
-    same-length
-    returns)
+    (tie.spec slice-aggregate-put-tally put-tally-requires put-other-requires same-length returns)

@@ -1,13 +1,10 @@
--- `listing::put_group` puts the word, the label, the count and the line's end.
+-- `tally_text::put_group` puts the bytes before, the label, the count and the bytes around it.
 use mathlib.Core.Path.{sym}
 use Rattle.text.proofs.Putting.{_▹_}
-use Rattle.listing.specs.Listing.{groupLine}
+use Rattle.tally_text.specs.Groups.{groupText}
 use borrow.Author.Needs.{needs}
-use Rattle.listing.proofs.put_group.Statement.{statement}
-use Rattle.listing.proofs.put_group.Tie as tie
-
-slice-aggregate-put-all : tie.Need-slice-aggregate-put-all
-slice-aggregate-put-all c = search needs
+use Rattle.tally_text.proofs.put_group.Statement.{statement}
+use Rattle.tally_text.proofs.put_group.Tie as tie
 
 put-all-requires : tie.Need-put-all-requires
 put-all-requires c κs = search needs
@@ -31,7 +28,7 @@ same-length : tie.Need-same-length
 same-length c = search needs
 
 returns : tie.Need-returns
-unfolding groupLine
+unfolding groupText
 returns c =
     rw (sym (c .before .before .before .before .before .before .before .before .before .before .before .before .before .before .before .label .ensures))
     (c .before .before .before .before .before .before .before .before .before .before .before .before .before .before .before .before .before .before .before .put-all .ensures ▹ c .before .before .before .before .before .before .before .before .before .before .before .before .before .before .put-hex .ensures ▹ c .before .before .before .before .before .before .before .before .before .before .put-byte .ensures ▹ c .before .before .before .before .before .before .put-decimal .ensures ▹ c .before .before .put-byte2 .ensures)
@@ -40,7 +37,6 @@ pub put-group-spec : {M : Type 1} → statement M
 put-group-spec =
     tie.close
     (tie.spec
-    slice-aggregate-put-all
     put-all-requires
     label-requires
     put-hex-requires

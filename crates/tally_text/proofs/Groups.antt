@@ -7,7 +7,7 @@ use lib.ListN.{length, getD, drop, drop-of-length-le}
 use lib.Seq.{drop-cons}
 use Rattle.text.specs.Write.{Put}
 use Rattle.text.proofs.Putting.{_▹_, put-none}
-use Rattle.klv_text.specs.Groups.{eachGroup}
+use Rattle.tally_text.specs.Groups.{eachGroup}
 
 pub record Grouping (line : ℕ → ℕ → List ℕ) (f c o₀ : List ℕ) (at : ℕ) (o : List ℕ) (r j : ℕ) : Type 0 where
   pub done : List ℕ

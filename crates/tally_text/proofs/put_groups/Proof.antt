@@ -1,19 +1,19 @@
--- `listing::put_groups` puts the groups: what is put, and then the lines of the groups from j on, is all of them.
+-- `tally_text::put_groups` puts the groups: what is put, and then the lines of the groups from j on, is all of them.
 use native.Mathlib.Omega.{arith}
 use Prim.Native.Nat.{_-_}
 use lib.ListN.{length}
 use Rattle.text.proofs.Putting.{length-put}
-use Rattle.listing.specs.Listing.{groupLine}
-use Rattle.klv_text.proofs.Groups.{Grouping, grouping-start, grouping-next, grouping-over}
+use Rattle.tally_text.specs.Groups.{groupText}
+use Rattle.tally_text.proofs.Groups.{Grouping, grouping-start, grouping-next, grouping-over}
 use borrow.Author.Needs.{needs}
-use Rattle.listing.proofs.put_groups.Statement.{statement}
-use Rattle.listing.proofs.put_groups.Tie as tie
+use Rattle.tally_text.proofs.put_groups.Statement.{statement}
+use Rattle.tally_text.proofs.put_groups.Tie as tie
 
 abbrev Inv-loop : tie.InvT-loop
-Inv-loop out₀ at s firsts counts p₀ j₀ out p j = Grouping (groupLine s) firsts counts out₀ at out p j
+Inv-loop out₀ at before between behind s firsts counts p₀ j₀ out p j = Grouping (groupText before between behind s) firsts counts out₀ at out p j
 
 abbrev μ-loop : tie.MeasureT-loop
-μ-loop out₀ at s firsts counts p₀ j₀ out p j = length firsts - j
+μ-loop out₀ at before between behind s firsts counts p₀ j₀ out p j = length firsts - j
 
 loop-holds : tie.Need-loop-holds Inv-loop μ-loop
 loop-holds c = grouping-start _ _ _ _ _
