@@ -7,7 +7,7 @@ use std::io::Cursor;
 use serde_json::Value;
 
 use super::frames::{Frames, place_of};
-use super::sony::{put_read, walked};
+use super::sony::{list, walked};
 use crate::InputOptions;
 use crate::canon_codes::mxf_packs::{KEYS, parse_klv, reach};
 use crate::line::{put_bytes, put_hex};
@@ -59,13 +59,7 @@ pub fn frames(out: &mut String, bytes: &[u8], end: u64) {
         &KEYS,
         |label, value, _, _| frames.borrow_mut().put_value(heard::place(), value_text(bytes, label, value)),
     );
-    let numbers = samples.expect("memory is read without error").into_iter().map(|sample| sample.sample_index);
-    let mut frames = frames.into_inner();
-    for (number, (v, payload)) in numbers.zip(read.into_inner()) {
-        put_read(&mut frames, number, v, bytes, &payload);
-    }
-    frames.put_heard(bytes);
-    frames.list(out);
+    list(out, bytes, samples, read.into_inner(), frames.into_inner());
 }
 
 /// A value of one of Canon's labels, and in brackets the members of each Private Camera Metadata or of the sequence info.

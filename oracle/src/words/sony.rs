@@ -2,15 +2,15 @@
 
 use std::cell::RefCell;
 use std::fmt::Write;
-use std::io::Cursor;
+use std::io::{Cursor, Result};
 
 use serde_json::Value;
 
 use super::frames::{Frames, place_of};
-use crate::InputOptions;
 use crate::line::put_bytes;
 use crate::shims::heard;
 use crate::sony::mxf::{parse, reach};
+use crate::{InputOptions, SampleInfo};
 
 /// `anc`: the payload of an ST 436 element.
 pub fn anc(out: &mut String, bytes: &[u8]) {
@@ -51,13 +51,7 @@ pub fn frames(out: &mut String, bytes: &[u8], end: u64) {
             Ok(())
         },
     );
-    let numbers = samples.expect("memory is read without error").into_iter().map(|sample| sample.sample_index);
-    let mut frames = Frames::default();
-    for (number, (v, payload)) in numbers.zip(read.into_inner()) {
-        put_read(&mut frames, number, v, bytes, &payload);
-    }
-    frames.put_heard(bytes);
-    frames.list(out);
+    list(out, bytes, samples, read.into_inner(), Frames::default());
 }
 
 /// The size that Sony's walk takes: an end of 0 is the whole stream to it.
@@ -65,11 +59,16 @@ pub fn walked(bytes: &[u8], end: u64) -> u64 {
     if end > 0 { end } else { bytes.len() as u64 }
 }
 
-/// Puts a frame with its payload.
-pub fn put_read(frames: &mut Frames, number: u64, v: u64, bytes: &[u8], payload: &[u8]) {
-    let mut text = String::new();
-    put_bytes(&mut text, payload);
-    frames.put_read(number, place_of(bytes, v).0, v, bytes, text);
+/// Lists a walk's frames: the numbers of its samples with the payloads that it read, and what was heard of the rest.
+pub fn list(out: &mut String, bytes: &[u8], samples: Result<Vec<SampleInfo>>, read: Vec<(u64, Vec<u8>)>, mut frames: Frames) {
+    let numbers = samples.expect("memory is read without error").into_iter().map(|sample| sample.sample_index);
+    for (number, (v, payload)) in numbers.zip(read) {
+        let mut text = String::new();
+        put_bytes(&mut text, &payload);
+        frames.put_read(number, place_of(bytes, v).0, v, bytes, text);
+    }
+    frames.put_heard(bytes);
+    frames.list(out);
 }
 
 #[cfg(test)]
