@@ -8,21 +8,21 @@ use lib.IntN.{pos}
 use lib.Ieee.{binary32, binary64, ofInt}
 use Rattle.parts.specs.Number.{numberOf}
 use Rattle.floats.specs.Quotients.{thousandthsF32, lowTenths, overThousand}
-use Rattle.frame.specs.Values.{u32At, floatOf, positive, singleThousandths, doubleThousandths, tiltRollOf}
-use Rattle.frame.specs.declared.Single.{Single}
-use Rattle.frame.specs.declared.Whole64.{Whole64}
-use Rattle.frame.specs.declared.Distance.{Distance}
-use Rattle.frame.specs.declared.TStop.{TStop}
-use Rattle.frame.specs.declared.Factors.{Factors}
-use Rattle.frame.specs.declared.Encoders.{Encoders}
-use Rattle.frame.specs.declared.Frame.{Frame}
-use Rattle.frame.specs.declared.Single.the-variants as single
-use Rattle.frame.specs.declared.Double.the-variants as double
-use Rattle.frame.specs.declared.Whole32.the-variants as whole32
-use Rattle.frame.specs.declared.Whole64.the-variants as whole64
-use Rattle.frame.specs.declared.Distance.the-variants as distance
-use Rattle.frame.specs.declared.TStop.the-variants as stop
-use Rattle.frame.specs.declared.Factors.the-variants as factors
+use Rattle.frame_values.specs.Values.{u32At, floatOf, positive, singleThousandths, doubleThousandths, tiltRollOf}
+use Rattle.frame_values.specs.declared.Single.{Single}
+use Rattle.frame_values.specs.declared.Whole64.{Whole64}
+use Rattle.frame_values.specs.declared.Distance.{Distance}
+use Rattle.frame_values.specs.declared.TStop.{TStop}
+use Rattle.frame_values.specs.declared.Factors.{Factors}
+use Rattle.frame_values.specs.declared.Encoders.{Encoders}
+use Rattle.frame_values.specs.declared.Frame.{Frame}
+use Rattle.frame_values.specs.declared.Single.the-variants as single
+use Rattle.frame_values.specs.declared.Double.the-variants as double
+use Rattle.frame_values.specs.declared.Whole32.the-variants as whole32
+use Rattle.frame_values.specs.declared.Whole64.the-variants as whole64
+use Rattle.frame_values.specs.declared.Distance.the-variants as distance
+use Rattle.frame_values.specs.declared.TStop.the-variants as stop
+use Rattle.frame_values.specs.declared.Factors.the-variants as factors
 
 -- all bits set: a field without a value
 abbrev pub unset : ℕ

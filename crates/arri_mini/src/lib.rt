@@ -4,21 +4,21 @@
 // E0h and E4h are the low 16 bits, signed, over 10". Exposure time and effective focal length are divided in f64.
 ghost use mathlib.Core.Path.{_≡_};
 ghost use Rattle.arri_mini.specs.Dynamic.{isSet, isKnown, versionOf, singleOverThousand, shutterOf, angleOf, tStopOf, distanceOf, factorsOf, encoderAt, encodersOf, dynamicOf};
-use frame::Colours;
-use frame::Distance;
-use frame::Double;
-use frame::Encoders;
-use frame::Factors;
-use frame::Frame;
-use frame::Single;
-use frame::TStop;
-use frame::Whole32;
-use frame::Whole64;
-use frame::double_thousandths;
-use frame::float_of;
-use frame::positive;
-use frame::single_thousandths;
-use frame::u32_at;
+use frame_values::Colours;
+use frame_values::Distance;
+use frame_values::Double;
+use frame_values::Encoders;
+use frame_values::Factors;
+use frame_values::Frame;
+use frame_values::Single;
+use frame_values::TStop;
+use frame_values::Whole32;
+use frame_values::Whole64;
+use frame_values::double_thousandths;
+use frame_values::float_of;
+use frame_values::positive;
+use frame_values::single_thousandths;
+use frame_values::u32_at;
 
 // A field without a value has all bits set.
 const UNSET: u32 = 0xffff_ffff;
@@ -164,7 +164,7 @@ pub fn of_dynamic(d: &[u8]) -> Frame
         t_stop: t_stop_of(single_thousandths(has_stop, stop)),
         exposure_time: double_thousandths(is_set(exposure), exposure),
         shutter_angle: shutter_of(version_of(u32_at(d, 0xfc)), u32_at(d, 0x54)),
-        tilt_roll: frame::tilt_roll_of(angle_of(u32_at(d, 0xe0)), angle_of(u32_at(d, 0xe4))),
+        tilt_roll: frame_values::tilt_roll_of(angle_of(u32_at(d, 0xe0)), angle_of(u32_at(d, 0xe4))),
         exposure_index: Whole32::Nothing,
         white_balance: Whole32::Nothing,
         nd_density: Double::Nothing,

@@ -15,11 +15,11 @@ use Rattle.records.specs.Records.{finishedListBy, finishedFrom}
 use Rattle.records.proofs.Lists as lists
 use Rattle.records.proofs.Lists.{Onward, finished-says}
 use Rattle.records.proofs.Stepping.{stepped-on}
-use Rattle.frames.specs.declared.Camera.{Camera}
-use Rattle.frames.specs.Kinds.{overLong, goesOn}
-use Rattle.frames.specs.Frames.{wanted}
+use Rattle.frame_walks.specs.declared.Camera.{Camera}
+use Rattle.frame_walks.specs.Kinds.{overLong, goesOn}
+use Rattle.frame_walks.specs.Frames.{wanted}
 use Rattle.frame_lists.specs.Lists.{shown, AllRead, CountedOverRecords}
-use Rattle.frames.proofs.Laws.{goes-onward}
+use Rattle.frame_walks.proofs.Laws.{goes-onward}
 
 -- The finished list by where its turns lead, wherever walking goes on
 

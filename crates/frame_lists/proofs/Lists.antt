@@ -10,12 +10,12 @@ use Rattle.steps.specs.Listed.{before, listFrom}
 use Rattle.steps.proofs.Laws.{listed}
 use Rattle.steps.proofs.Wanted.{wanted-moves, wanted-listed}
 use Rattle.klv.specs.Item.{Item}
-use Rattle.frames.specs.declared.Camera.{Camera}
-use Rattle.frames.specs.Kinds.{kind, isFrame}
-use Rattle.frames.specs.Frames.{wanted, wantedStep, frameStep, frame}
+use Rattle.frame_walks.specs.declared.Camera.{Camera}
+use Rattle.frame_walks.specs.Kinds.{kind, isFrame}
+use Rattle.frame_walks.specs.Frames.{wanted, wantedStep, frameStep, frame}
 use Rattle.frame_lists.specs.Lists.{wantedRecords, framed, given, shown}
-use Rattle.frames.proofs.Seeks.{record-step, record-moves}
-use Rattle.frames.proofs.Answers.{within-so}
+use Rattle.frame_walks.proofs.Seeks.{record-step, record-moves}
+use Rattle.frame_walks.proofs.Answers.{within-so}
 
 module _ (c : Camera) (s : List ℕ) (e : ℕ) where
   by-step : (p : ℕ) (t : Told Item) → wantedStep c s e p ≡ t → wantedRecords c s e p ≡ before (listFrom (wantedStep c s e) e) t

@@ -8,10 +8,10 @@ use Rattle.steps.specs.Wanted.{kept}
 use Rattle.klv.specs.declared.Klv.{Klv}
 use Rattle.klv.specs.Item.{Item}
 use Rattle.records.specs.Records.{finishedListBy, finishedFrom}
-use Rattle.frames.specs.declared.Camera.{Camera}
-use Rattle.frames.specs.declared.Frame.{Frame}
-use Rattle.frames.specs.Kinds.{kind, isFrame, overLong, goesOn}
-use Rattle.frames.specs.Frames.{wanted, frame}
+use Rattle.frame_walks.specs.declared.Camera.{Camera}
+use Rattle.frame_walks.specs.declared.Frame.{Frame}
+use Rattle.frame_walks.specs.Kinds.{kind, isFrame, overLong, goesOn}
+use Rattle.frame_walks.specs.Frames.{wanted, frame}
 
 -- the records of a camera's walk from p on: the frames, and what is given beside them, in file order
 abbrev pub wantedRecords : Camera → List ℕ → ℕ → ℕ → List Item

@@ -9,8 +9,8 @@ use Rattle.canon_groups.specs.declared.Balance.{Balance}
 use Rattle.canon_groups.specs.declared.Gain.{Gain}
 use Rattle.canon_groups.specs.declared.Ranges.{Ranges}
 use Rattle.canon_packs.specs.declared.Camera.{Camera}
-use Rattle.canon_places.specs.declared.Slot.{Slot}
-use Rattle.canon_places.specs.Slots.{slotOf}
+use Rattle.host_canon_places.specs.declared.Slot.{Slot}
+use Rattle.host_canon_places.specs.Slots.{slotOf}
 use Rattle.host_canon.specs.declared.LensSlots.{LensSlots}
 use Rattle.host_canon.specs.declared.ModesSlots.{ModesSlots}
 use Rattle.host_canon.specs.declared.ShutterSlots.{ShutterSlots}

@@ -10,8 +10,8 @@ use canon_groups::Modes;
 use canon_groups::Ranges;
 use canon_groups::Shutter;
 use canon_packs::Camera;
-use canon_places::Slot;
-use canon_places::slot_of;
+use host_canon_places::Slot;
+use host_canon_places::slot_of;
 
 // The slots of the lens.
 pub struct LensSlots {

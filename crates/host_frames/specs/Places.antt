@@ -3,13 +3,13 @@ use Prim.Native.Nat.{ℕ}
 use mathlib.Core.List.{List, [], _∷_}
 use Rattle.host_numbers.specs.Numbers.{mark}
 use Rattle.klv.specs.declared.Klv.{Klv}
-use Rattle.frames.specs.declared.Frame.{Frame}
-use Rattle.frames.specs.declared.SonyStep.{SonyStep}
-use Rattle.frames.specs.declared.SonyStep.the-variants as sony
-use Rattle.frames.specs.declared.ArriStep.{ArriStep}
-use Rattle.frames.specs.declared.ArriStep.the-variants as arri
-use Rattle.frames.specs.declared.CanonStep.{CanonStep}
-use Rattle.frames.specs.declared.CanonStep.the-variants as canon
+use Rattle.frame_walks.specs.declared.Frame.{Frame}
+use Rattle.frame_walks.specs.declared.SonyStep.{SonyStep}
+use Rattle.frame_walks.specs.declared.SonyStep.the-variants as sony
+use Rattle.frame_walks.specs.declared.ArriStep.{ArriStep}
+use Rattle.frame_walks.specs.declared.ArriStep.the-variants as arri
+use Rattle.frame_walks.specs.declared.CanonStep.{CanonStep}
+use Rattle.frame_walks.specs.declared.CanonStep.the-variants as canon
 
 -- a frame: found, its number, its element's place, its value's place and length, over-long or not, the next cursor and number
 unfoldable pub framePlaces : Frame → ℕ → ℕ → List ℕ

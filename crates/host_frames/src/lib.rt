@@ -1,14 +1,14 @@
 // What a host links of the frame walks: numbers and slices in, a status and lent places out (include/brinethimble.h).
 ghost use mathlib.Core.Path.{_≡_};
-ghost use Rattle.frames.specs.Frames.{sonyStep, arriStep, canonStep};
+ghost use Rattle.frame_walks.specs.Frames.{sonyStep, arriStep, canonStep};
 ghost use Rattle.host_frames.specs.Places.{framePlaces, overPlaces, statusOf, placesOf, sonySaid, arriSaid, canonSaid};
-use frames::Arri;
-use frames::ArriStep;
-use frames::Canon;
-use frames::CanonStep;
-use frames::Frame;
-use frames::Sony;
-use frames::SonyStep;
+use frame_walks::Arri;
+use frame_walks::ArriStep;
+use frame_walks::Canon;
+use frame_walks::CanonStep;
+use frame_walks::Frame;
+use frame_walks::Sony;
+use frame_walks::SonyStep;
 use host_numbers::mark;
 
 // Puts a frame, and the cursor and number that follow it.

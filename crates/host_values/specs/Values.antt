@@ -3,19 +3,19 @@ use Prim.Native.Nat.{ℕ}
 use mathlib.Core.List.{List, [], _∷_}
 use lib.ListN.{getD}
 use lib.Dec.{ltb}
-use Rattle.frames.specs.declared.Frame as frames
-use Rattle.frame.specs.declared.Single.the-variants as single
-use Rattle.frame.specs.declared.Double.the-variants as double
-use Rattle.frame.specs.declared.Whole32.the-variants as whole32
-use Rattle.frame.specs.declared.Whole64.the-variants as whole64
-use Rattle.frame.specs.declared.Distance.the-variants as distance
-use Rattle.frame.specs.declared.TStop.the-variants as stop
-use Rattle.frame.specs.declared.TiltRoll.the-variants as angles
-use Rattle.frame.specs.declared.Factors.the-variants as factors
-use Rattle.frame.specs.declared.Encoders.{Encoders}
-use Rattle.frame.specs.declared.Frame.{Frame}
-use Rattle.arri.specs.declared.Values.{Values}
-use Rattle.arri.specs.declared.Values.the-variants as values
+use Rattle.frame_walks.specs.declared.Frame as frames
+use Rattle.frame_values.specs.declared.Single.the-variants as single
+use Rattle.frame_values.specs.declared.Double.the-variants as double
+use Rattle.frame_values.specs.declared.Whole32.the-variants as whole32
+use Rattle.frame_values.specs.declared.Whole64.the-variants as whole64
+use Rattle.frame_values.specs.declared.Distance.the-variants as distance
+use Rattle.frame_values.specs.declared.TStop.the-variants as stop
+use Rattle.frame_values.specs.declared.TiltRoll.the-variants as angles
+use Rattle.frame_values.specs.declared.Factors.the-variants as factors
+use Rattle.frame_values.specs.declared.Encoders.{Encoders}
+use Rattle.frame_values.specs.declared.Frame.{Frame}
+use Rattle.arri_values.specs.declared.Values.{Values}
+use Rattle.arri_values.specs.declared.Values.the-variants as values
 
 -- the frame of four places: the element's place, the value's place and length, over-long where the last is not 0
 unfoldable pub frameOf : List ℕ → frames.Frame

@@ -1,25 +1,25 @@
 // What a host links of frame values: bytes in, lent arrays out, one for each type of figure (include/brinethimble.h).
 ghost use mathlib.Core.Path.{_≡_};
-ghost use Rattle.frame_places.specs.Places.{presentPlaces, wholePlaces, singlePlaces, doublePlaces};
+ghost use Rattle.host_frame_places.specs.Places.{presentPlaces, wholePlaces, singlePlaces, doublePlaces};
 ghost use Rattle.arri_mini.specs.Dynamic.{dynamicOf};
-ghost use Rattle.alexa35.specs.Alexa.{alexaOf};
-ghost use Rattle.arri.specs.Values.{valuesOf};
+ghost use Rattle.arri_alexa35.specs.Alexa.{alexaOf};
+ghost use Rattle.arri_values.specs.Values.{valuesOf};
 ghost use Rattle.host_values.specs.Values.{frameOf, noEncoders, noValues, frameIn, foundPlaces};
-use arri::Values;
-use frame::Distance;
-use frame::Double;
-use frame::Encoders;
-use frame::Factors;
-use frame::Frame;
-use frame::Single;
-use frame::TStop;
-use frame::TiltRoll;
-use frame::Whole32;
-use frame::Whole64;
-use frame_places::put_doubles;
-use frame_places::put_present;
-use frame_places::put_singles;
-use frame_places::put_whole;
+use arri_values::Values;
+use frame_values::Distance;
+use frame_values::Double;
+use frame_values::Encoders;
+use frame_values::Factors;
+use frame_values::Frame;
+use frame_values::Single;
+use frame_values::TStop;
+use frame_values::TiltRoll;
+use frame_values::Whole32;
+use frame_values::Whole64;
+use host_frame_places::put_doubles;
+use host_frame_places::put_present;
+use host_frame_places::put_singles;
+use host_frame_places::put_whole;
 use klv::Klv;
 
 // The values in ARRI's 256 bytes.
@@ -60,7 +60,7 @@ pub extern "C" fn brine_of_alexa35(
     ensures { λ r. ⌜ now (singles .exit) ≡ singlePlaces (alexaOf (now (element .entry))) ⌝ }
     ensures { λ r. ⌜ now (doubles .exit) ≡ doublePlaces (alexaOf (now (element .entry))) ⌝ }
 {
-    let f = alexa35::of_alexa35(element);
+    let f = arri_alexa35::of_alexa35(element);
     put_present(f, present);
     put_whole(f, whole);
     put_singles(f, singles);
@@ -122,7 +122,7 @@ fn frame_in(v: Values, out: &mut [u64; 1]) -> Frame
 }
 
 // The frame that four places of a step speak of. Values ask nothing of its number.
-fn frame_of(frame: &[u64; 4]) -> frames::Frame
+fn frame_of(frame: &[u64; 4]) -> frame_walks::Frame
     ensures { λ r. ⌜ r ≡ frameOf (now (frame .entry)) ⌝ }
 {
     let at = frame[0];
@@ -135,7 +135,7 @@ fn frame_of(frame: &[u64; 4]) -> frames::Frame
         len: len as usize,
     };
     let overlong = 0 < mark;
-    frames::Frame {
+    frame_walks::Frame {
         number: 0,
         element,
         overlong,
@@ -160,7 +160,7 @@ pub extern "C" fn brine_arri_values(
     ensures { λ r. ⌜ now (singles .exit) ≡ singlePlaces (frameIn (valuesOf (now (s .entry)) (frameOf (now (frame .entry))))) ⌝ }
     ensures { λ r. ⌜ now (doubles .exit) ≡ doublePlaces (frameIn (valuesOf (now (s .entry)) (frameOf (now (frame .entry))))) ⌝ }
 {
-    let v = arri::values_of(s, frame_of(frame));
+    let v = arri_values::values_of(s, frame_of(frame));
     let f = frame_in(v, out);
     put_present(f, present);
     put_whole(f, whole);

@@ -1,9 +1,6 @@
 -- A KLV as text: document 01, "Tally and listing".
 use Prim.Native.Nat.{ℕ}
 use mathlib.Core.List.{List, [], _∷_, _++_}
-use mathlib.Core.Bool.{cond}
-use lib.ListN.{length}
-use lib.Dec.{eqb}
 use Rattle.klv.specs.Item.{Item}
 use Rattle.text.specs.Write.{decimalOf, hexOf}
 
@@ -11,7 +8,3 @@ use Rattle.text.specs.Write.{decimalOf, hexOf}
 unfoldable pub itemText : ℕ → Item → List ℕ
 itemText between i =
     decimalOf (i .klv .at) ++ (between ∷ []) ++ hexOf (i .key) ++ (between ∷ []) ++ decimalOf (i .klv .value) ++ (between ∷ []) ++ decimalOf (i .klv .len)
-
--- bytes in hex, `-` for none
-unfoldable pub bytesText : List ℕ → List ℕ
-bytesText s = cond (eqb (length s) 0) (45 ∷ []) (hexOf s)

@@ -1,17 +1,17 @@
 -- The digits that `io` makes are those of the definitions. Assumes nothing.
-use Prim.Native.Nat.{ℕ, zero, suc, _+_, _-_, _/_, _%_, _^_, _≤_, _<_, min}
+use Prim.Native.Nat.{ℕ, zero, suc, _+_, _-_, _/_, _%_, _^_, _≤_, _<_}
 use mathlib.Core.Path.{_≡_, refl, ap, _∙_}
 use mathlib.Core.List.{List, [], _∷_, _++_}
 use mathlib.Core.Logic.{by-cases}
-use native.Mathlib.Nat.{pow-suc, pow-le-pow-right, one-le-pow, add-suc}
+use native.Mathlib.Nat.{pow-suc, pow-le-pow-right, one-le-pow}
 use native.Mathlib.Numerals.{add-one}
 use native.Mathlib.Omega.{arith}
 use native.Mathlib.Decide.{decLt}
 use borrow.Author.Tests.{le-ltb, lt-ltb}
-use lib.ListN.{length, getD, take, drop, length-append, drop-of-length-le}
-use lib.Seq.{drop-append-le, take-nil, take-suc, take-all}
+use lib.ListN.{length, getD, take}
+use lib.Seq.{take-suc, take-all}
 use Rattle.io.specs.Digits.{glyph, digits, Fewest}
-use Rattle.text.specs.Write.{decimalUpTo, decimalOf, hexOf, hexNumber, Put}
+use Rattle.text.specs.Write.{decimalUpTo, decimalOf, hexOf, Put}
 use Rattle.text.proofs.Putting.{_▹_, put-none}
 
 -- Decimal: each definition takes the last digit off
@@ -56,40 +56,6 @@ unfolding decimalOf
 decimal-is n k h f = decimal-up 19 n k (few n k h f) f
 
 -- Hex
-
-pub length-digits : (b k n : ℕ) → length (digits b k n) ≡ k
-length-digits b zero n = refl
-length-digits b (suc k) n = rw (length-append (digits b k (n / b)) (glyph (n % b) ∷ []), length-digits b k (n / b)) (omega arith)
-
-drop-digits : (b j k n : ℕ) → drop j (digits b (j + k) n) ≡ digits b k n
-drop-digits b j zero n = drop-of-length-le (digits b (j + 0) n) {i = j} (rw (length-digits b (j + 0) n) (omega arith))
-drop-digits b j (suc k) n =
-    rw (add-suc j k)
-    (drop-append-le j (digits b (j + k) (n / b)) (glyph (n % b) ∷ []) (rw (length-digits b (j + k) (n / b)) (omega arith))
-    ∙ ap (λ (l : List ℕ). l ++ (glyph (n % b) ∷ [])) (drop-digits b j k (n / b)))
-
-take-drop : (j k : ℕ) (l : List ℕ) → take k (drop j l) ≡ drop j (take (j + k) l)
-take-drop zero k l = let e : 0 + k ≡ k = omega arith in rw e
-take-drop (suc j) k [] = rw (take-nil (suc j + k)) (take-nil k)
-take-drop (suc j) k (x ∷ l) = let e : suc j + k ≡ suc (j + k) = omega arith in rw e (take-drop j k l)
-
--- a number below 2^64 has no more than 16 digits
-sixteen : (n k : ℕ) → n < 2 ^ 64 → Fewest 16 16 n k → k ≡ 16
-sixteen n k h f =
-    by-cases (decLt 16 k)
-    (λ m. let w : 16 ^ (k - 1) ≤ n = f .2 m in
-    let p : 16 ^ 16 ≤ 16 ^ (k - 1) = pow-le-pow-right {n = 16} (omega arith) {i = 16} {j = k - 1} (omega arith) in
-    absurd (omega arith))
-    (λ m. omega (arith, f .0))
-
--- of them, the last ones
-pub last-hex : (n k c j : ℕ) (l : List ℕ) → n < 2 ^ 64 → Fewest 16 16 n k → take k l ≡ digits 16 k n → j ≡ 16 - c → take (k - j) (drop j l) ≡ hexNumber c n
-unfolding hexNumber
-last-hex n k c j l h f d e =
-    let z : k ≡ 16 = sixteen n k h f in
-    let s : j + (k - j) ≡ k = omega arith in
-    let m : k ≡ j + min c 16 = omega arith in
-    take-drop j (k - j) l ∙ rw (s, d) (ap (λ (i : ℕ). drop j (digits 16 i n)) m ∙ drop-digits 16 j (min c 16) n)
 
 hex-append : (a b : List ℕ) → hexOf (a ++ b) ≡ hexOf a ++ hexOf b
 unfolding hexOf

@@ -1,5 +1,3 @@
 pub mod Putting
 pub mod Digits
-pub mod Reading
 pub mod Sizes
-pub mod RoundTrip

@@ -9,18 +9,13 @@ use borrow.Author.Tests.{le-ltb, lt-ltb}
 use lib.ListN.{length, take, drop, length-append}
 use lib.Seq.{sets-eq, take-at, length-take-le}
 use Rattle.io.specs.Digits.{glyph}
-use Rattle.text.specs.Write.{decimalUpTo, decimalOf, hexOf, hexNumber, Put}
+use Rattle.text.specs.Write.{decimalUpTo, decimalOf, hexOf, Put}
 use Rattle.text.proofs.Putting.{length-put}
-use Rattle.text.proofs.Digits.{length-digits}
 
 pub length-hex : (l : List ℕ) → length (hexOf l) ≡ length l * 2
 unfolding hexOf
 length-hex [] = refl
 length-hex (b ∷ l) = omega (arith, length-hex l)
-
-pub length-hex-number : (k n : ℕ) → length (hexNumber k n) ≡ min k 16
-unfolding hexNumber
-length-hex-number k n = length-digits 16 (min k 16) n
 
 up-to : (k n : ℕ) → length (decimalUpTo k n) ≤ suc k
 unfolding decimalUpTo

@@ -6,7 +6,7 @@ use mathlib.Core.Bool.{cond}
 use lib.Dec.{ltb}
 use lib.ListN.{length}
 use lib.Seq.{sets}
-use Rattle.io.specs.Digits.{glyph, digits}
+use Rattle.io.specs.Digits.{glyph}
 
 -- the decimal digits of n, at most k + 1 of them: those of n / 10, and then the last one
 unfoldable pub decimalUpTo : ℕ → ℕ → List ℕ
@@ -21,10 +21,6 @@ decimalOf n = decimalUpTo 19 n
 unfoldable pub hexOf : List ℕ → List ℕ
 hexOf [] = []
 hexOf (b ∷ l) = glyph (b / 16) ∷ (glyph (b % 16) ∷ hexOf l)
-
--- the last k digits of a number in lowercase hex, k at most 16
-unfoldable pub hexNumber : ℕ → ℕ → List ℕ
-hexNumber k n = digits 16 (min k 16) n
 
 -- o is o₀ with a text stored from a place on, as much of it as there is room for, and r is the place after it
 pub record Put (text o₀ : List ℕ) (at : ℕ) (o : List ℕ) (r : ℕ) : Type 0 where

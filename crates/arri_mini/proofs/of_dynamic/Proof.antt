@@ -1,9 +1,9 @@
 -- `arri_mini::of_dynamic` meets its contract, field by field: each is its kind of the number at its place.
 use mathlib.Core.Bool.{Bool, _||_}
 use mathlib.Core.Path.{ap, ap₂, _∙_}
-use Rattle.frame.specs.Values.{floatOf, positive, singleThousandths, doubleThousandths, tiltRollOf}
-use Rattle.frame.specs.declared.Whole32.the-variants as whole32
-use Rattle.frame.specs.declared.Double.the-variants as double
+use Rattle.frame_values.specs.Values.{floatOf, positive, singleThousandths, doubleThousandths, tiltRollOf}
+use Rattle.frame_values.specs.declared.Whole32.the-variants as whole32
+use Rattle.frame_values.specs.declared.Double.the-variants as double
 use Rattle.arri_mini.specs.Dynamic.{isSet, isKnown, versionOf, shutterOf, angleOf, tStopOf, distanceOf, factorsOf, dynamicOf}
 use borrow.Author.Needs.{needs}
 use Rattle.arri_mini.proofs.of_dynamic.Statement.{statement}

@@ -1,0 +1,33 @@
+-- The values of an ARRI frame: document 01, "Frame walks".
+use Prim.Native.Nat.{ℕ}
+use mathlib.Core.List.{List}
+use mathlib.Core.Bool.{cond}
+use lib.ListN.{take, drop}
+use Rattle.labels.specs.Label.{agreeBut, labelAt}
+use Rattle.frame_walks.specs.declared.Frame.{Frame}
+use Rattle.frame_walks.specs.Labels.{frameData}
+use Rattle.arri_block.specs.declared.Block.{Block}
+use Rattle.arri_block.specs.declared.Block.the-variants as block
+use Rattle.arri_block.specs.Block.{blockOf}
+use Rattle.arri_mini.specs.Dynamic.{dynamicOf}
+use Rattle.arri_alexa35.specs.Alexa.{alexaOf}
+use Rattle.arri_values.specs.declared.Values.{Values}
+use Rattle.arri_values.specs.declared.Values.the-variants.{Are, Nothing}
+
+-- an ALEXA Mini's 256 bytes, where the element has them
+unfoldable pub ofBlock : List ℕ → Block → Values
+ofBlock element (block.At at) = Are (dynamicOf (take 256 (drop at element)))
+ofBlock element block.Nothing = Nothing
+
+abbrev pub miniOf : List ℕ → Values
+miniOf element = ofBlock element (blockOf element)
+
+-- `FRAME_DATA` with bytes 7, 13 and 15 free is an ALEXA 35's
+unfoldable pub elementOf : List ℕ → List ℕ → Values
+elementOf label element = cond (agreeBut 7 13 15 label frameData) (Are (alexaOf element)) (miniOf element)
+
+-- an over-long frame is without values
+unfoldable pub valuesOf : List ℕ → Frame → Values
+valuesOf s f =
+    cond (f .overlong) Nothing
+    (elementOf (labelAt s (f .element .at)) (take (f .element .len) (drop (f .element .value) s)))

@@ -1,0 +1,22 @@
+-- `host_frame_places::single_figure` answers each case of the value.
+use Rattle.host_frame_places.specs.Places.{singleFigure}
+use borrow.Author.Needs.{needs}
+use Rattle.host_frame_places.proofs.single_figure.Statement.{statement}
+use Rattle.host_frame_places.proofs.single_figure.Tie as tie
+
+enum-known-v : tie.Need-enum-known-v
+enum-known-v c = search needs
+
+enum-told : tie.Need-enum-told
+enum-told c = search needs
+
+returns : tie.Need-returns
+unfolding singleFigure
+returns c = rw (c .before .v .given .1)
+
+returns-2 : tie.Need-returns-2
+unfolding singleFigure
+returns-2 c = rw (c .enum-told .given .1)
+
+pub single-figure-spec : {M : Type 1} → statement M
+single-figure-spec = tie.close (tie.spec enum-known-v enum-told returns returns-2)

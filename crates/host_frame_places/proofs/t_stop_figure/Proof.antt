@@ -1,0 +1,29 @@
+-- `host_frame_places::t_stop_figure` answers each case of the value.
+use Rattle.host_frame_places.specs.Places.{tStopFigure}
+use borrow.Author.Needs.{needs}
+use Rattle.host_frame_places.proofs.t_stop_figure.Statement.{statement}
+use Rattle.host_frame_places.proofs.t_stop_figure.Tie as tie
+
+enum-known-v : tie.Need-enum-known-v
+enum-known-v c = search needs
+
+enum-told : tie.Need-enum-told
+enum-told c = search needs
+
+enum-told-2 : tie.Need-enum-told-2
+enum-told-2 c = search needs
+
+returns : tie.Need-returns
+unfolding tStopFigure
+returns c = rw (c .before .v .given .1)
+
+returns-2 : tie.Need-returns-2
+unfolding tStopFigure
+returns-2 c = rw (c .enum-told .given .1)
+
+returns-3 : tie.Need-returns-3
+unfolding tStopFigure
+returns-3 c = rw (c .enum-told2 .given .1)
+
+pub t-stop-figure-spec : {M : Type 1} → statement M
+t-stop-figure-spec = tie.close (tie.spec enum-known-v enum-told enum-told-2 returns returns-2 returns-3)
