@@ -16,7 +16,7 @@ oracle compare WORDS COUNT SEED --answers CMD    the port's answers beside the e
 oracle files WORDS FOLDER --answers CMD          the same over the real files of a folder
 oracle cuts WORDS FOLDER --answers CMD           the same over these files at every cut and end, and damaged
 oracle every WORDS --answers CMD                 the same over every small case
-oracle record WORDS COUNT SEED FOLDER            a sample, as FOLDER/stdin and FOLDER/stdout
+oracle record WORDS COUNT SEED FOLDER            a sample, as FOLDER/cases.txt and FOLDER/answers.txt
 oracle arriving COUNT SEED                       the arriving walk beside all short extensions";
 
 fn main() {
@@ -130,8 +130,8 @@ fn port(command: &str) -> Port {
 
 fn write_sample(words: &str, count: u64, seed: u64, folder: &str) -> Result<bool> {
     let (cases, answers) = record::sample(&words_of(words)?, count as usize, seed);
-    std::fs::write(Path::new(folder).join("stdin"), &cases)?;
-    std::fs::write(Path::new(folder).join("stdout"), &answers)?;
+    std::fs::write(Path::new(folder).join("cases.txt"), &cases)?;
+    std::fs::write(Path::new(folder).join("answers.txt"), &answers)?;
     println!("{} cases, {} bytes of cases, {} bytes of answers", cases.lines().count(), cases.len(), answers.len());
     Ok(true)
 }
