@@ -4,7 +4,7 @@ use mathlib.Core.List.{List}
 use mathlib.Core.Bool.{cond}
 use lib.ListN.{take, drop}
 use Rattle.labels.specs.Label.{agreeBut, labelAt}
-use Rattle.frame_walks.specs.declared.Frame.{Frame}
+use Rattle.frame_walks.specs.declared.FrameElement.{FrameElement}
 use Rattle.frame_walks.specs.Labels.{frameData}
 use Rattle.arri_block.specs.declared.Block.{Block}
 use Rattle.arri_block.specs.declared.Block.the-variants as block
@@ -27,7 +27,7 @@ unfoldable pub elementOf : List ℕ → List ℕ → Values
 elementOf label element = cond (agreeBut 7 13 15 label frameData) (Are (alexaOf element)) (miniOf element)
 
 -- an over-long frame is without values
-unfoldable pub valuesOf : List ℕ → Frame → Values
+unfoldable pub valuesOf : List ℕ → FrameElement → Values
 valuesOf s f =
     cond (f .overlong) Nothing
     (elementOf (labelAt s (f .element .at)) (take (f .element .len) (drop (f .element .value) s)))

@@ -4,7 +4,7 @@ ghost use mathlib.Core.Path.{_≡_};
 ghost use Rattle.arri_values.specs.Values.{miniOf, elementOf, valuesOf};
 use arri_block::Block;
 use frame_walks::Arri;
-use frame_walks::Frame;
+use frame_walks::FrameElement;
 
 // A frame's values, or none.
 pub enum Values {
@@ -34,7 +34,7 @@ fn in_element(label: &[u8], element: &[u8]) -> Values
 }
 
 // The values of a frame that ARRI's walk over s gave.
-pub fn values_of(s: &[u8], f: Frame) -> Values
+pub fn values_of(s: &[u8], f: FrameElement) -> Values
     ensures { λ r. ⌜ r ≡ valuesOf (now (s .entry)) f ⌝ }
 {
     if f.overlong {

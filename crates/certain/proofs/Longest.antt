@@ -20,7 +20,7 @@ use Rattle.records.specs.Records.{finishedListBy, arrivingListBy}
 use Rattle.records.proofs.Lists.{Onward}
 use Rattle.certain.specs.Certain.{File, Begins, BeginsAll, Longest}
 use Rattle.certain.proofs.Kept.{key-kept, length-kept}
-use Rattle.certain.proofs.Held.{fin-stop, fin-search, fin-record, Held, held}
+use Rattle.certain.proofs.Held.{fin-stop, fin-search, fin-record, held}
 
 -- Two lists whose first elements differ have nothing in common past what both begin with
 
@@ -116,38 +116,35 @@ module _ (next : Item → ℕ) (on : Onward next) where
             (apart w v (klv 16 w g) x refl (omega arith) (rule-late 0 a (length a) w h k g l f (omega arith))
             (rule-record 0 (a ++ x) (length (a ++ x)) w (omega arith) (key-kept a x w true (omega arith) k) g (length-kept a x (w + 16) g l) (omega arith)))
 
-    -- Demand 3, wherever walking goes on after a record
+    -- Demand 3, wherever walking starts, and goes on after a record
 
-    pub longest-by : Bytes a → Longest (λ f. finishedListBy next f (length f) 0) limit a (arrivingListBy next limit a 0)
-    longest-by bytes =
-        record {
-          begins = λ f file. begins-in f file;
-          longest = λ m all. go m all (close (i .w) (i .waits));
-        }
-      where
-        i : Held next on limit a 0
-        i = held next on limit a 0
+    module _ (p : ℕ) (bytes : Bytes a) where
+      abbrev listed : List ℕ → List Item
+      listed f = finishedListBy next f (length f) p
 
-        begins-in : (f : List ℕ) → File limit a f → Begins (arrivingListBy next limit a 0) (finishedListBy next f (length f) 0)
-        begins-in f file =
-            let h : length (a ++ file .rest) ≤ limit = rw (file .starts) at (file .within) in
-            rw (file .starts) (finishedListBy next (a ++ file .rest) (length (a ++ file .rest)) (i .w), i .rest (file .rest) h)
+      abbrev sure : List Item
+      sure = arrivingListBy next limit a p
 
-        file-of : (x : List ℕ) → Bytes x → length (a ++ x) ≤ limit → File limit a (a ++ x)
-        file-of x b h = record { rest = x; starts = refl; bytes = bytes-after a x bytes b; within = h }
+      abbrev rest : List ℕ → List Item
+      rest f = finishedListBy next f (length f) (held next on limit a p .w)
 
-        rest-of : (m : List Item) → BeginsAll (λ f. finishedListBy next f (length f) 0) limit a m → (x : List ℕ) → Bytes x → length (a ++ x) ≤ limit
-            → Begins m (arrivingListBy next limit a 0 ++ finishedListBy next (a ++ x) (length (a ++ x)) (i .w))
-        rest-of m all x b h = rw (i .rest x h) (all (a ++ x) (file-of x b h))
+      rest-of : (m : List Item) → BeginsAll listed limit a m → (x : List ℕ) → Bytes x → length (a ++ x) ≤ limit → Begins m (sure ++ rest (a ++ x))
+      rest-of m all x b h =
+          rw (held next on limit a p .rest x h) (all (a ++ x) (record { rest = x; starts = refl; bytes = bytes-after a x bytes b; within = h }))
 
-        own : (m : List Item) → BeginsAll (λ f. finishedListBy next f (length f) 0) limit a m
-            → Begins m (arrivingListBy next limit a 0 ++ finishedListBy next a (length a) (i .w))
-        own m all = rw append-nil at (rest-of m all [] (λ j. omega arith) (rw append-nil fits))
+      own : (m : List Item) → BeginsAll listed limit a m → Begins m (sure ++ rest a)
+      own m all = rw append-nil at (rest-of m all [] (λ j. omega arith) (rw append-nil fits))
 
-        go : (m : List Item) → BeginsAll (λ f. finishedListBy next f (length f) 0) limit a m → Close (i .w) → Begins m (arrivingListBy next limit a 0)
-        go m all (shut z) = rw append-nil at (rw z at (own m all))
-        go m all (open-at x b f d) =
-            common m (arrivingListBy next limit a 0) (finishedListBy next a (length a) (i .w)) (finishedListBy next (a ++ x) (length (a ++ x)) (i .w))
-            (own m all)
-            (rest-of m all x b f)
-            d
+      none-longer : (m : List Item) → BeginsAll listed limit a m → Close (held next on limit a p .w) → Begins m sure
+      none-longer m all (shut z) = rw append-nil at (rw z at (own m all))
+      none-longer m all (open-at x b f d) = common m sure (rest a) (rest (a ++ x)) (own m all) (rest-of m all x b f) d
+
+      begins-in : (f : List ℕ) → File limit a f → Begins sure (listed f)
+      begins-in f file =
+          let h : length (a ++ file .rest) ≤ limit = rw (file .starts) at (file .within) in
+          rw (file .starts) (rest (a ++ file .rest), held next on limit a p .rest (file .rest) h)
+
+      pub longest-by : Longest (λ f. finishedListBy next f (length f) p) limit a (arrivingListBy next limit a p)
+      longest-by =
+          let i = held next on limit a p in
+          record { begins = begins-in; longest = λ m all. none-longer m all (close (i .w) (i .waits)) }

@@ -1,10 +1,9 @@
--- Frames are counted over demand 2's list: where no record is over-long, both walks go on behind each value. Assumes nothing.
-use Prim.Native.Nat.{ℕ, zero, suc, _-_, _<_}
+-- Frames are counted over demand 2's list: up to an over-long record both walks go on behind each value. Assumes nothing.
+use Prim.Native.Nat.{ℕ, zero, suc, _+_, _-_, _<_}
 use mathlib.Core.Path.{_≡_, refl, sym, ap, _∙_}
-use mathlib.Core.List.{List, [], _∷_}
-use mathlib.Core.Bool.{false}
+use mathlib.Core.List.{List, [], _∷_, _++_}
+use mathlib.Core.Bool.{Bool, true, false, cond}
 use native.Mathlib.Omega.{arith}
-use Rattle.steps.specs.Wanted.{kept}
 use Rattle.klv.specs.declared.Klv.{Klv}
 use Rattle.klv.specs.Item.{Item, item, past}
 use Rattle.walk.specs.declared.Walked.{Walked}
@@ -16,10 +15,12 @@ use Rattle.records.proofs.Lists as lists
 use Rattle.records.proofs.Lists.{Onward, finished-says}
 use Rattle.records.proofs.Stepping.{stepped-on}
 use Rattle.frame_walks.specs.declared.Camera.{Camera}
-use Rattle.frame_walks.specs.Kinds.{overLong, goesOn}
-use Rattle.frame_walks.specs.Frames.{wanted}
-use Rattle.frame_lists.specs.Lists.{shown, AllRead, CountedOverRecords}
+use Rattle.frame_walks.specs.declared.Kind.{Kind}
+use Rattle.frame_walks.specs.declared.Kind.the-variants as kinds
+use Rattle.frame_walks.specs.Kinds.{kind, overLong, goesOn}
+use Rattle.frame_walks.specs.Frames.{Shown, framed, given, frame}
 use Rattle.frame_walks.proofs.Laws.{goes-onward}
+use Rattle.frame_lists.specs.Lists.{numbered, shown, AllRead, upToOverLong, CountedOverRecords}
 
 -- The finished list by where its turns lead, wherever walking goes on
 
@@ -41,23 +42,59 @@ module _ (c : Camera) (s : List ℕ) (e : ℕ) where
   unfolding goesOn
   behind i h = rw h
 
-  same-within : (k p : ℕ) → e - p < k → AllRead c (finishedFrom s e p) → finishedListBy (goesOn c) s e p ≡ finishedFrom s e p
-  unfolding AllRead
-  same-within zero p h all = absurd (omega arith)
-  same-within (suc k) p h all = go (walked 0 s e p) refl (same-within k)
+  -- up to the first over-long record both walks have the same
+  same-within : (k p : ℕ) → e - p < k → upToOverLong c (finishedListBy (goesOn c) s e p) ≡ upToOverLong c (finishedFrom s e p)
+  unfolding upToOverLong
+  same-within zero p h = absurd (omega arith)
+  same-within (suc k) p h = go (walked 0 s e p) refl (same-within k)
     where
-      go : (w : Walked) → walked 0 s e p ≡ w → ((q : ℕ) → e - q < k → AllRead c (finishedFrom s e q) → finishedListBy (goesOn c) s e q ≡ finishedFrom s e q)
-          → finishedListBy (goesOn c) s e p ≡ finishedFrom s e p
+      by-length : (r : Klv) (b : Bool) → overLong c (item 16 s r) ≡ b → ((q : ℕ) → e - q < k → upToOverLong c (finishedListBy (goesOn c) s e q) ≡ upToOverLong c (finishedFrom s e q)) → e - past r < k
+          → upToOverLong c (item 16 s r ∷ finishedListBy (goesOn c) s e (goesOn c (item 16 s r))) ≡ upToOverLong c (item 16 s r ∷ finishedFrom s e (past r))
+      by-length r true o ih h = rw o
+      by-length r false o ih h = rw (o, behind (item 16 s r) o, ih (past r) h)
+
+      go : (w : Walked) → walked 0 s e p ≡ w → ((q : ℕ) → e - q < k → upToOverLong c (finishedListBy (goesOn c) s e q) ≡ upToOverLong c (finishedFrom s e q))
+          → upToOverLong c (finishedListBy (goesOn c) s e p) ≡ upToOverLong c (finishedFrom s e p)
       go (Found r) w ih =
           let f = walk-fits 0 s e p r w in
-          let plain = list-found stepped stepped-on s e p r w in
-          let read = rw plain at all in
-          let b = behind (item 16 s r) (read .0) in
-          list-found (goesOn c) (goes-onward c) s e p r w
-          ∙ rw (b, ih (past r) (omega (arith, f .0, f .1)) (read .1)) (sym plain)
-      go (Stopped q) w ih = list-stopped (goesOn c) (goes-onward c) s e p q w ∙ sym (list-stopped stepped stepped-on s e p q w)
-      go (Lost q) w ih = list-lost (goesOn c) (goes-onward c) s e p q w ∙ sym (list-lost stepped stepped-on s e p q w)
+          rw (list-found (goesOn c) (goes-onward c) s e p r w, list-found stepped stepped-on s e p r w)
+          (by-length r (overLong c (item 16 s r)) refl ih (omega (arith, f .0, f .1)))
+      go (Stopped q) w ih = rw (list-stopped (goesOn c) (goes-onward c) s e p q w, list-stopped stepped stepped-on s e p q w)
+      go (Lost q) w ih = rw (list-lost (goesOn c) (goes-onward c) s e p q w, list-lost stepped stepped-on s e p q w)
+
+-- Of any list: what is shown of it begins with what is shown of it so far, which is all of it where no record is over-long
+
+module _ (c : Camera) where
+  shown-begins : (l : List Item) (n : ℕ) → (r : List Shown) × (shown c n (upToOverLong c l) ++ r ≡ shown c n l)
+  unfolding upToOverLong shown numbered
+  shown-begins [] n = ([], refl)
+  shown-begins (i ∷ l) n = go (overLong c i) (kind c i) (shown-begins l)
+    where
+      go : (b : Bool) (x : Kind) → ((m : ℕ) → (r : List Shown) × (shown c m (upToOverLong c l) ++ r ≡ shown c m l))
+          → (r : List Shown) × (numbered c n i x (λ m. shown c m (cond b [] (upToOverLong c l))) ++ r ≡ numbered c n i x (λ m. shown c m l))
+      go true kinds.Frame ih = (shown c (n + 1) l, refl)
+      go true kinds.Given ih = (shown c n l, refl)
+      go true kinds.Other ih = (shown c n l, refl)
+      go false kinds.Frame ih = let r = ih (n + 1) in (r .0, ap (λ (t : List Shown). framed (frame c n i) ∷ t) (r .1))
+      go false kinds.Given ih = let r = ih n in (r .0, ap (λ (t : List Shown). given (i .klv) ∷ t) (r .1))
+      go false kinds.Other ih = ih n
+
+  read-whole : (l : List Item) → AllRead c l → upToOverLong c l ≡ l
+  unfolding AllRead upToOverLong
+  read-whole [] all = refl
+  read-whole (i ∷ l) all = rw (all .0, read-whole l (all .1))
+
+  whole-read : (l : List Item) → AllRead c (upToOverLong c l) → upToOverLong c l ≡ l
+  unfolding AllRead upToOverLong
+  whole-read [] all = refl
+  whole-read (i ∷ l) all = rw (all .0) (ap (λ (t : List Item). i ∷ t) (whole-read l (rw (all .0) at (all .1))))
 
 pub counted-over-records : CountedOverRecords
-counted-over-records c s e h all =
-    ap (λ (l : List Item). shown c 0 (kept (wanted c) l)) (same-within c s e (suc (e - 0)) 0 (omega arith) all)
+counted-over-records c s e =
+    let same = same-within c s e (suc (e - 0)) 0 (omega arith) in
+    record {
+      begins = rw same at (shown-begins c (finishedListBy (goesOn c) s e 0) 0);
+      whole = λ all.
+          let d = same ∙ read-whole c (finishedFrom s e 0) all in
+          ap (shown c 0) (sym (whole-read c (finishedListBy (goesOn c) s e 0) (rw d all)) ∙ d);
+    }

@@ -1,53 +1,56 @@
--- Stepping gives the walk's frames, each with the count of those before it, and is over exactly at their end. Assumes
--- nothing.
-use Prim.Native.Nat.{ℕ, _+_, _≤_}
-use mathlib.Core.Path.{_≡_, sym, ap, _∙_}
+-- The numbers in 64 bits are the counts, for no list is longer than its bytes. Assumes nothing.
+use Prim.Native.Nat.{ℕ, zero, suc, _+_, _-_, _≤_, _<_, _^_}
+use mathlib.Core.Path.{_≡_, refl, ap, _∙_}
 use mathlib.Core.List.{List, [], _∷_}
-use mathlib.Core.Bool.{true, false}
+use native.Mathlib.Omega.{arith}
 use lib.ListN.{length}
-use Rattle.steps.specs.Told.{Told, found, nothing}
+use Rattle.steps.specs.Told.{Told, found, nothing, refused}
 use Rattle.steps.specs.Listed.{before, listFrom}
-use Rattle.steps.proofs.Laws.{listed}
-use Rattle.steps.proofs.Wanted.{wanted-moves, wanted-listed}
+use Rattle.steps.specs.Tells.{saying, toldFrom}
+use Rattle.steps.proofs.Laws.{Moves, listed}
 use Rattle.klv.specs.Item.{Item}
+use Rattle.records.specs.Records.{finishedListBy}
 use Rattle.frame_walks.specs.declared.Camera.{Camera}
-use Rattle.frame_walks.specs.Kinds.{kind, isFrame}
-use Rattle.frame_walks.specs.Frames.{wanted, wantedStep, frameStep, frame}
-use Rattle.frame_lists.specs.Lists.{wantedRecords, framed, given, shown}
+use Rattle.frame_walks.specs.declared.Kind.{Kind}
+use Rattle.frame_walks.specs.declared.Kind.the-variants as kinds
+use Rattle.frame_walks.specs.Kinds.{kind, goesOn}
+use Rattle.frame_walks.specs.Frames.{Shown, framed, given, frame, after, showingAs, showing}
 use Rattle.frame_walks.proofs.Seeks.{record-step, record-moves}
-use Rattle.frame_walks.proofs.Answers.{within-so}
+use Rattle.frame_lists.specs.Lists.{numbered, shown}
+use Rattle.frame_lists.specs.Steps.{SameFrames}
 
-module _ (c : Camera) (s : List ℕ) (e : ℕ) where
-  by-step : (p : ℕ) (t : Told Item) → wantedStep c s e p ≡ t → wantedRecords c s e p ≡ before (listFrom (wantedStep c s e) e) t
-  by-step p t x =
-      sym (wanted-listed (wanted c) (record-step c s e) e (record-moves c s e) p)
-      ∙ listed (wantedStep c s e) e (wanted-moves (wanted c) (record-step c s e) e (record-moves c s e)) p
-      ∙ ap (before (listFrom (wantedStep c s e) e)) x
+-- each item starts below e and moves the cursor up, so that there are no more of them than bytes
+module _ {A : Type 0} (step : ℕ → Told A) (e : ℕ) (moves : Moves step e) where
+  few-within : (k p : ℕ) → e - p < k → length (listFrom step e p) ≤ e - p
+  unfolding before
+  few-within zero p h = absurd (omega arith)
+  few-within (suc k) p h = go (step p) refl (few-within k)
+    where
+      go : (t : Told A) → step p ≡ t → ((q : ℕ) → e - q < k → length (listFrom step e q) ≤ e - q) → length (listFrom step e p) ≤ e - p
+      go (found a q) x ih =
+          let m = moves p a q x in
+          rw (listed step e moves p, x) (omega (arith, ih q (omega (arith, m .0, m .1)), m .0, m .1))
+      go (nothing q) x ih = rw (listed step e moves p, x) (omega arith)
+      go (refused n q) x ih = rw (listed step e moves p, x) (omega arith)
 
-  module _ (h : e ≤ length s) (p : ℕ) where
-    -- the record that a step stops at is the next of the walk's
-    pub next-wanted : (i : Item) (q : ℕ) → frameStep c s e p ≡ found i q → wantedRecords c s e p ≡ i ∷ wantedRecords c s e q
-    unfolding before
-    next-wanted i q x =
-        by-step p (found i q) (sym (within-so c s e p h) ∙ x)
-        ∙ ap (λ (l : List Item). i ∷ l) (wanted-listed (wanted c) (record-step c s e) e (record-moves c s e) q)
+counts : (n m : ℕ) → n + suc m < 2 ^ 64 → after n ≡ n + 1
+counts n m h = omega arith
 
-    pub none-wanted : (q : ℕ) → frameStep c s e p ≡ nothing q → wantedRecords c s e p ≡ []
-    unfolding before
-    none-wanted q x = by-step p (nothing q) (sym (within-so c s e p h) ∙ x)
+module _ (c : Camera) where
+  same-shown : (l : List Item) (n : ℕ) → n + length l < 2 ^ 64 → toldFrom (showing c) n l ≡ shown c n l
+  unfolding shown numbered toldFrom saying showing showingAs
+  same-shown [] n h = refl
+  same-shown (i ∷ l) n h = go (kind c i) (same-shown l)
+    where
+      go : (x : Kind) → ((m : ℕ) → m + length l < 2 ^ 64 → toldFrom (showing c) m l ≡ shown c m l)
+          → saying (λ t. toldFrom (showing c) t l) (showingAs c n i x) ≡ numbered c n i x (λ m. shown c m l)
+      go kinds.Frame ih =
+          let m = counts n (length l) h in
+          ap (λ (r : List Shown). framed (frame c n i) ∷ r) (ih (after n) (rw m (omega arith)) ∙ ap (λ (k : ℕ). shown c k l) m)
+      go kinds.Given ih = ap (λ (r : List Shown). given (i .klv) ∷ r) (ih n (omega arith))
+      go kinds.Other ih = ih n (omega arith)
 
-    module _ (i : Item) (q : ℕ) (x : frameStep c s e p ≡ found i q) (n : ℕ) where
-      -- a frame takes the number n, and the next one n + 1
-      pub next-frame : isFrame (kind c i) ≡ true → shown c n (wantedRecords c s e p) ≡ framed (frame c n i) ∷ shown c (n + 1) (wantedRecords c s e q)
-      unfolding shown
-      next-frame b = rw (next-wanted i q x, b)
-
-      -- a given value takes none
-      pub next-given : isFrame (kind c i) ≡ false → shown c n (wantedRecords c s e p) ≡ given (i .klv) ∷ shown c n (wantedRecords c s e q)
-      unfolding shown
-      next-given b = rw (next-wanted i q x, b)
-
-    -- over comes exactly where no frame is left
-    pub no-frame : (n q : ℕ) → frameStep c s e p ≡ nothing q → shown c n (wantedRecords c s e p) ≡ []
-    unfolding shown
-    no-frame n q x = rw (none-wanted q x)
+pub same-frames : SameFrames
+same-frames c s e h =
+    let f : length (finishedListBy (goesOn c) s e 0) ≤ e - 0 = few-within (record-step c s e) e (record-moves c s e) (suc (e - 0)) 0 (omega arith) in
+    same-shown c (finishedListBy (goesOn c) s e 0) 0 (omega (arith, f))

@@ -1,26 +1,60 @@
 -- A frame walk's step from what it makes of one record: it stops there, passes it, or is over. Assumes nothing.
-use Prim.Native.Nat.{ℕ, _<_}
-use mathlib.Core.Path.{_≡_, refl, ap, _∙_}
+use Prim.Native.Nat.{ℕ, _≤_, _<_}
+use mathlib.Core.Path.{_≡_, refl, _∙_}
 use mathlib.Core.List.{List}
-use mathlib.Core.Bool.{Bool, true, false}
+use mathlib.Core.Bool.{Bool, cond}
 use native.Mathlib.Omega.{arith}
+use borrow.Author.Tests.{le-ltb, lt-ltb}
+use lib.ListN.{length}
+use lib.Dec.{ltb}
 use Rattle.steps.specs.Told.{Told, found, nothing, refused}
+use Rattle.steps.specs.Tells.{Said, tells, passes}
+use Rattle.steps.specs.Next.{Cursor}
 use Rattle.steps.proofs.Laws.{Moves}
-use Rattle.steps.proofs.Wanted.{wanted-found, wanted-passed, wanted-nothing, wanted-refused, wanted-unrefused}
-use Rattle.klv.specs.Item.{Item}
-use Rattle.walk.specs.Walk.{walked, finishedAfter, finishedBy}
+use Rattle.steps.proofs.Next.{next-given, next-passed, next-rests}
+use Rattle.klv.specs.Item.{Item, past}
+use Rattle.walk.specs.Walk.{finishedAfter, finishedBy}
+use Rattle.walk.proofs.Answers.{finished-never}
 use Rattle.records.proofs.Lists as lists
 use Rattle.records.proofs.Lists.{finished-says}
-use Rattle.records.proofs.Stepping.{never-refuses}
+use Rattle.frame_walks.specs.declared.Kind.the-variants as kinds
 use Rattle.frame_walks.specs.declared.Camera.{Camera}
-use Rattle.frame_walks.specs.declared.Seen.{Seen}
+use Rattle.frame_walks.specs.declared.Place.{Place}
+use Rattle.frame_walks.specs.declared.Looked.{Looked}
 use Rattle.frame_walks.specs.declared.Looked.the-variants as looked
-use Rattle.frame_walks.specs.declared.Sought.the-variants as sought
-use Rattle.frame_walks.specs.Kinds.{goesOn}
-use Rattle.frame_walks.specs.Frames.{wanted, wantedStep, seenOf, lookedAs, soughtAs}
+use Rattle.frame_walks.specs.declared.FrameStep.the-variants as step
+use Rattle.frame_walks.specs.Kinds.{kind, longestOf, isFrame, goesOn}
+use Rattle.frame_walks.specs.Frames.{Shown, framed, given, after, showingAs, showing, next, frameStep}
+use Rattle.frame_walks.specs.Told.{placeAt, told, place, shownAs, saidAs, lookedAs}
 use Rattle.frame_walks.proofs.Laws.{goes-onward}
 
+-- A record by its kind
+
+module _ (c : Camera) (n : ℕ) (i : Item) where
+  pub met-frame : kind c i ≡ kinds.Frame → (q : ℕ) (b : Bool) → b ≡ ltb (longestOf c) (i .klv .len) → q ≡ cond b (i .klv .value) (past (i .klv))
+      → looked.Found (step.Frame (record { number = n; element = i .klv; overlong = b }) (place q (after n))) ≡ saidAs (goesOn c i) (showing c n i)
+  unfolding saidAs shownAs showing showingAs isFrame goesOn
+  met-frame x q b o m = rw (m, o) (simp x)
+
+  pub met-given : kind c i ≡ kinds.Given → looked.Found (step.Given (i .klv) (place (past (i .klv)) n)) ≡ saidAs (goesOn c i) (showing c n i)
+  unfolding saidAs shownAs showing showingAs isFrame goesOn
+  met-given x = simp x
+
+  pub met-other : kind c i ≡ kinds.Other → looked.Pass (place (past (i .klv)) n) ≡ saidAs (goesOn c i) (showing c n i)
+  unfolding saidAs showing showingAs isFrame goesOn
+  met-other x = simp x
+
+-- A step is refused, or is the next of what is shown
+
 module _ (c : Camera) (s : List ℕ) (e : ℕ) where
+  pub frame-refused : (k : Place) → length s < e → told (placeAt k) step.Refused ≡ frameStep c s e (placeAt k)
+  unfolding told frameStep
+  frame-refused k h = simp (lt-ltb _ _ h)
+
+  pub frame-within : e ≤ length s → (k : Cursor ℕ) → frameStep c s e k ≡ next c s e k
+  unfolding frameStep
+  frame-within h k = simp (le-ltb _ _ h)
+
   abbrev pub record-step : ℕ → Told Item
   record-step p = finishedBy (goesOn c) s e p
 
@@ -28,64 +62,29 @@ module _ (c : Camera) (s : List ℕ) (e : ℕ) where
   unfolding finishedBy
   record-moves = lists.moves (goesOn c) (goes-onward c) 0 s e (finishedAfter (goesOn c) s e) (finished-says (goesOn c) s e)
 
-  -- within the buffer nothing is refused
-  pub never-refused : (p n q : ℕ) → wantedStep c s e p ≡ refused n q → ⊥
-  unfolding finishedBy
-  never-refused =
-      wanted-unrefused (wanted c) record-step e record-moves
-      (λ p. never-refuses (goesOn c) s (finishedAfter (goesOn c) s e) (finished-says (goesOn c) s e) (walked 0 s e p))
+  -- what was looked at leads on, or is the answer
+  unfoldable pub Leads : Place → Looked → Type 0
+  Leads k (looked.Pass q) = (next c s e (placeAt k) ≡ next c s e (placeAt q)) × (k .at < q .at) × (k .at < e)
+  Leads k (looked.Found f) = (from : Place) → told (placeAt from) f ≡ next c s e (placeAt k)
 
-  module _ (p : ℕ) where
-    pub seeks-found : (f : Seen) → lookedAs c (record-step p) ≡ looked.Found f → soughtAs c (wantedStep c s e p) ≡ sought.Found f
-    unfolding lookedAs soughtAs
-    seeks-found f = go (record-step p) refl
-      where
-        by-want : (i : Item) (q : ℕ) (b : Bool) → record-step p ≡ found i q → wanted c i ≡ b → lookedAs c (found i q) ≡ looked.Found f
-            → soughtAs c (wantedStep c s e p) ≡ sought.Found f
-        by-want i q true x w l =
-            rw (wanted-found (wanted c) record-step e record-moves p i q x w)
-            (let v = rw w at l in
-            let z : seenOf c i q ≡ f = cc in
-            ap (λ (k : Seen). sought.Found k) z)
-        by-want i q false x w l = absurd (let v = rw w at l in let z : _≡_ {A = ℕ} 0 1 = cc in omega arith)
+  leads : (k : Place) → Leads k (lookedAs c (k .number) (record-step (k .at)))
+  unfolding Leads lookedAs saidAs shownAs told
+  leads k = go (record-step (k .at)) refl
+    where
+      shown-told : (from : Place) (q n : ℕ) (b : Shown) → told (placeAt from) (shownAs (place q n) b) ≡ found b (placeAt (place q n))
+      shown-told from q n (framed f) = refl
+      shown-told from q n (given v) = refl
 
-        go : (t : Told Item) → record-step p ≡ t → lookedAs c t ≡ looked.Found f → soughtAs c (wantedStep c s e p) ≡ sought.Found f
-        go (found i q) x l = by-want i q (wanted c i) x refl l
-        go (nothing q) x l = absurd (let z : _≡_ {A = ℕ} 0 1 = cc in omega arith)
-        go (refused n q) x l = absurd (let z : _≡_ {A = ℕ} 0 1 = cc in omega arith)
+      by-said : (i : Item) (q : ℕ) → record-step (k .at) ≡ found i q → (x : Said ℕ Shown) → showing c (k .number) i ≡ x → Leads k (saidAs q x)
+      by-said i q b (tells x n) y = λ from. rw (next-given (showing c) record-step e record-moves (placeAt k) i q x n b y) (shown-told from q n x)
+      by-said i q b (passes n) y =
+          let m = record-moves (k .at) i q b in
+          (next-passed (showing c) record-step e record-moves (placeAt k) i q n b y, m .0, m .1)
 
-    pub seeks-over : (q : ℕ) → lookedAs c (record-step p) ≡ looked.Over q → soughtAs c (wantedStep c s e p) ≡ sought.Over q
-    unfolding lookedAs soughtAs
-    seeks-over q = go (record-step p) refl
-      where
-        by-want : (i : Item) (r : ℕ) (b : Bool) → wanted c i ≡ b → lookedAs c (found i r) ≡ looked.Over q → soughtAs c (wantedStep c s e p) ≡ sought.Over q
-        by-want i r true w l = absurd (let v = rw w at l in let z : _≡_ {A = ℕ} 0 1 = cc in omega arith)
-        by-want i r false w l = absurd (let v = rw w at l in let z : _≡_ {A = ℕ} 0 1 = cc in omega arith)
+      go : (t : Told Item) → record-step (k .at) ≡ t → Leads k (lookedAs c (k .number) t)
+      go (found i q) x = by-said i q x (showing c (k .number) i) refl
+      go (nothing q) x = λ from. rw (next-rests (showing c) record-step e record-moves (placeAt k) q x)
+      go (refused n q) x = absurd (finished-never (goesOn c) s e (k .at) n q x)
 
-        go : (t : Told Item) → record-step p ≡ t → lookedAs c t ≡ looked.Over q → soughtAs c (wantedStep c s e p) ≡ sought.Over q
-        go (found i r) x l = by-want i r (wanted c i) refl l
-        go (nothing r) x l =
-            let z : r ≡ q = cc in
-            rw (wanted-nothing (wanted c) record-step e record-moves p r x) (ap (λ (k : ℕ). sought.Over k) z)
-        go (refused n r) x l =
-            let z : r ≡ q = cc in
-            rw (wanted-refused (wanted c) record-step e record-moves p n r x) (ap (λ (k : ℕ). sought.Over k) z)
-
-    -- a record that is passed: walking goes on behind it
-    pub seeks-on : (q : ℕ) → lookedAs c (record-step p) ≡ looked.Pass q → (wantedStep c s e p ≡ wantedStep c s e q) × (p < q) × (p < e)
-    unfolding lookedAs
-    seeks-on q = go (record-step p) refl
-      where
-        by-want : (i : Item) (r : ℕ) (b : Bool) → record-step p ≡ found i r → wanted c i ≡ b → lookedAs c (found i r) ≡ looked.Pass q
-            → (wantedStep c s e p ≡ wantedStep c s e q) × (p < q) × (p < e)
-        by-want i r true x w l = absurd (let v = rw w at l in let z : _≡_ {A = ℕ} 0 1 = cc in omega arith)
-        by-want i r false x w l =
-            let v = rw w at l in
-            let z : r ≡ q = cc in
-            let m = record-moves p i r x in
-            (wanted-passed (wanted c) record-step e record-moves p i r x w ∙ ap (wantedStep c s e) z, omega arith, omega arith)
-
-        go : (t : Told Item) → record-step p ≡ t → lookedAs c t ≡ looked.Pass q → (wantedStep c s e p ≡ wantedStep c s e q) × (p < q) × (p < e)
-        go (found i r) x l = by-want i r (wanted c i) x refl l
-        go (nothing r) x l = absurd (let z : _≡_ {A = ℕ} 0 1 = cc in omega arith)
-        go (refused n r) x l = absurd (let z : _≡_ {A = ℕ} 0 1 = cc in omega arith)
+  pub leads-by : (k : Place) (l : Looked) → l ≡ lookedAs c (k .number) (record-step (k .at)) → Leads k l
+  leads-by k l x = rw x (leads k)

@@ -1,4 +1,4 @@
--- What a record is to a frame walk: document 01, "Frame walks".
+-- What a record is to a frame walk: docs/RULES.md, "Frame walks".
 use Prim.Native.Nat.{ℕ}
 use mathlib.Core.List.{List}
 use mathlib.Core.Bool.{Bool, true, false, cond, _&&_, _||_}
@@ -41,11 +41,6 @@ unfoldable pub isFrame : Kind → Bool
 isFrame Frame = true
 isFrame Given = false
 isFrame Other = false
-
-unfoldable pub isWanted : Kind → Bool
-isWanted Frame = true
-isWanted Given = true
-isWanted Other = false
 
 -- a longer element is over-long
 abbrev pub overLong : Camera → Item → Bool

@@ -1,4 +1,4 @@
--- The labels of the frame walks: document 01, "Frame walks", and the files it names.
+-- The labels of the frame walks: docs/RULES.md, "Frame walks", and the files it names.
 use Prim.Native.Nat.{ℕ}
 use mathlib.Core.List.{List, [], _∷_}
 

@@ -1,4 +1,4 @@
-// Frame walks: document 01, "Frame walks". Each has its own longest element and its own label: the three are one walk with
+// Frame walks: docs/RULES.md, "Frame walks". Each has its own longest element and its own label: the three are one walk with
 // other constants. A longer element takes its frame number and is marked over-long, and the walk goes on from its value.
 ghost use mathlib.Core.Path.{_≡_};
 ghost use lib.ListN.{length};
@@ -6,7 +6,8 @@ ghost use Prim.Native.Nat.{_+_, _≤_};
 ghost use Rattle.walk.specs.Walk.{finishedBy};
 ghost use Rattle.klv.specs.Item.{item};
 ghost use Rattle.frame_walks.specs.Kinds.{sonyKind, arriKind, canonKind, kindOf, longestOf, goesOn};
-ghost use Rattle.frame_walks.specs.Frames.{wantedStep, recordAs, lookedAs, soughtAs, sonyStep, arriStep, canonStep};
+ghost use Rattle.frame_walks.specs.Frames.{showing, frameStep, sonyStep, arriStep, canonStep};
+ghost use Rattle.frame_walks.specs.Told.{placeAt, told, saidAs, lookedAs};
 use klv::Klv;
 use walk::Cursor;
 use walk::Step;
@@ -27,17 +28,22 @@ pub enum Camera {
     Canon,
 }
 
-// A frame: its number, its element, and whether that is longer than any that is read, so that it has no values.
-pub struct Frame {
+// A frame's element: the frame's number, the element, and whether it is longer than any that is read, so that it has no values.
+pub struct FrameElement {
     pub number: u64,
     pub element: Klv,
     pub overlong: bool,
 }
 
-// Sony's walk: where it stands, and the next frame's number.
-pub struct Sony {
+// Where a frame walk stands, and the next frame's number.
+pub struct Place {
     pub at: usize,
     pub number: u64,
+}
+
+// Sony's walk.
+pub struct Sony {
+    pub place: Place,
 }
 
 impl Sony {
@@ -48,10 +54,9 @@ impl Sony {
         *b"\x06\x0e\x2b\x34\x01\x02\x01\x01\x0d\x01\x03\x01\x17\x01\x02\x01";
 }
 
-// ARRI's walk, likewise.
+// ARRI's walk.
 pub struct Arri {
-    pub at: usize,
-    pub number: u64,
+    pub place: Place,
 }
 
 impl Arri {
@@ -66,8 +71,7 @@ impl Arri {
 
 // Canon's walk is Sony's, and gives the values of two labels too.
 pub struct Canon {
-    pub at: usize,
-    pub number: u64,
+    pub place: Place,
 }
 
 impl Canon {
@@ -142,210 +146,109 @@ fn longest_of(camera: Camera) -> usize
     }
 }
 
-// A record that a walk stops at: where walking goes on after it, whether it is over-long, and whether it is a frame.
-pub struct Seen {
-    pub element: Klv,
-    pub next: usize,
-    pub overlong: bool,
-    pub frame: bool,
+// What a step of a frame walk finds.
+pub enum FrameStep {
+    // A frame, and the place to go on from.
+    Frame(FrameElement, Place),
+    // A value that is given beside the frames: Canon's alone.
+    Given(Klv, Place),
+    // The walk is over.
+    Over(Place),
+    // The end is larger than the buffer.
+    Refused,
 }
 
 // What a camera's walk makes of one record.
 pub enum Looked {
     // It is passed, and walking goes on here.
-    Pass(usize),
-    Found(Seen),
-    // The walk is over.
-    Over(usize),
+    Pass(Place),
+    Found(FrameStep),
 }
 
-// What a camera's walk makes of a record whose value ends at a place.
-fn record_as(s: &[u8], camera: Camera, k: Klv, end: usize) -> Looked
+// What a camera's walk makes of a record whose value ends at a place, the next frame having this number.
+fn met(s: &[u8], camera: Camera, number: u64, k: Klv, end: usize) -> Looked
     requires { ⌜ end ≡ k .value + k .len ⌝ }
-    ensures { λ r. ⌜ r ≡ recordAs camera (item 16 (now (s .entry)) k) ⌝ }
+    ensures { λ r. ⌜ r ≡ saidAs (goesOn camera (item 16 (now (s .entry)) k)) (showing camera number (item 16 (now (s .entry)) k)) ⌝ }
 {
     let kind = kind_of(camera, k.label(s), k.len);
     match kind {
         Kind::Frame => {
+            let after = std::num::wrapping_add_u64(number, 1);
             let longest = longest_of(camera);
-            if longest < k.len {
-                let next = k.value;
-                return Looked::Found(Seen {
+            let overlong = longest < k.len;
+            let next = if overlong { k.value } else { end };
+            Looked::Found(FrameStep::Frame(
+                FrameElement {
+                    number,
                     element: k,
-                    next,
-                    overlong: true,
-                    frame: true,
-                });
-            }
-            Looked::Found(Seen {
-                element: k,
-                next: end,
-                overlong: false,
-                frame: true,
-            })
+                    overlong,
+                },
+                Place {
+                    at: next,
+                    number: after,
+                },
+            ))
         }
-        Kind::Given => Looked::Found(Seen {
-            element: k,
-            next: end,
-            overlong: false,
-            frame: false,
-        }),
-        Kind::Other => Looked::Pass(end),
+        Kind::Given => Looked::Found(FrameStep::Given(k, Place { at: end, number })),
+        Kind::Other => Looked::Pass(Place { at: end, number }),
     }
 }
 
 // What a camera's walk makes of the next record from a place on.
-fn look(s: &[u8], end: usize, p: usize, camera: Camera) -> Looked
+fn look(s: &[u8], end: usize, camera: Camera, from: Place) -> Looked
     requires { ⌜ end ≤ length (now s) ⌝ }
-    ensures { λ r. ⌜ r ≡ lookedAs camera (finishedBy (goesOn camera) (now (s .entry)) end p) ⌝ }
+    ensures { λ r. ⌜ r ≡ lookedAs camera (from .number) (finishedBy (goesOn camera) (now (s .entry)) end (from .at)) ⌝ }
 {
-    let t = Cursor { at: p }.step(s, end);
+    let number = from.number;
+    let t = Cursor { at: from.at }.step(s, end);
     match t {
-        Step::Record(k, c) => record_as(s, camera, k, c.at),
-        Step::Over(c) => Looked::Over(c.at),
-        Step::Refused => Looked::Over(p),
+        Step::Record(k, c) => met(s, camera, number, k, c.at),
+        Step::Over(c) => Looked::Found(FrameStep::Over(Place { at: c.at, number })),
+        // Never: the end lies within the buffer.
+        Step::Refused => Looked::Found(FrameStep::Refused),
     }
 }
 
-// The next record that a camera's walk stops at, or the end of the walk.
-pub enum Sought {
-    Found(Seen),
-    Over(usize),
-}
-
-// The next record from a place on that a camera's walk stops at.
-fn seek(s: &[u8], end: usize, from: usize, camera: Camera) -> Sought
-    requires { ⌜ end ≤ length (now s) ⌝ }
-    ensures { λ r. ⌜ r ≡ soughtAs camera (wantedStep camera (now (s .entry)) end from) ⌝ }
+// The step of every frame walk: the next frame, or given value, from a place on and before the end.
+fn seek(s: &[u8], end: usize, camera: Camera, from: Place) -> FrameStep
+    ensures { λ r. ⌜ told (placeAt from) r ≡ frameStep camera (now (s .entry)) end (placeAt from) ⌝ }
 {
+    if s.len() < end {
+        return FrameStep::Refused;
+    }
     let mut p = from;
     loop {
-        let l = look(s, end, p, camera);
+        let l = look(s, end, camera, p);
         match l {
-            Looked::Found(f) => return Sought::Found(f),
-            Looked::Over(q) => return Sought::Over(q),
+            Looked::Found(f) => return f,
             Looked::Pass(q) => p = q,
         }
     }
 }
 
-// What a step of Sony's walk finds.
-pub enum SonyStep {
-    Frame(Frame, Sony),
-    Over(Sony),
-    // The end is larger than the buffer.
-    Refused,
-}
-
 impl Sony {
-    // The next frame before the end, with the moved cursor.
-    pub fn step(self, s: &[u8], end: usize) -> SonyStep
-        ensures { λ r. ⌜ r ≡ sonyStep (now (s .entry)) end (self .at) (self .number) ⌝ }
+    // The next frame before the end, with the place to go on from.
+    pub fn step(self, s: &[u8], end: usize) -> FrameStep
+        ensures { λ r. ⌜ told (placeAt (self .place)) r ≡ sonyStep (now (s .entry)) end (placeAt (self .place)) ⌝ }
     {
-        if s.len() < end {
-            return SonyStep::Refused;
-        }
-        let number = self.number;
-        let r = seek(s, end, self.at, Camera::Sony);
-        match r {
-            Sought::Found(f) => {
-                let element = f.element;
-                let after = std::num::wrapping_add_u64(number, 1);
-                SonyStep::Frame(
-                    Frame {
-                        number,
-                        element,
-                        overlong: f.overlong,
-                    },
-                    Sony {
-                        at: f.next,
-                        number: after,
-                    },
-                )
-            }
-            Sought::Over(at) => SonyStep::Over(Sony { at, number }),
-        }
+        seek(s, end, Camera::Sony, self.place)
     }
-}
-
-// What a step of ARRI's walk finds.
-pub enum ArriStep {
-    Frame(Frame, Arri),
-    Over(Arri),
-    // The end is larger than the buffer.
-    Refused,
 }
 
 impl Arri {
-    // The next frame before the end, with the moved cursor.
-    pub fn step(self, s: &[u8], end: usize) -> ArriStep
-        ensures { λ r. ⌜ r ≡ arriStep (now (s .entry)) end (self .at) (self .number) ⌝ }
+    // The next frame before the end, with the place to go on from.
+    pub fn step(self, s: &[u8], end: usize) -> FrameStep
+        ensures { λ r. ⌜ told (placeAt (self .place)) r ≡ arriStep (now (s .entry)) end (placeAt (self .place)) ⌝ }
     {
-        if s.len() < end {
-            return ArriStep::Refused;
-        }
-        let number = self.number;
-        let r = seek(s, end, self.at, Camera::Arri);
-        match r {
-            Sought::Found(f) => {
-                let element = f.element;
-                let after = std::num::wrapping_add_u64(number, 1);
-                ArriStep::Frame(
-                    Frame {
-                        number,
-                        element,
-                        overlong: f.overlong,
-                    },
-                    Arri {
-                        at: f.next,
-                        number: after,
-                    },
-                )
-            }
-            Sought::Over(at) => ArriStep::Over(Arri { at, number }),
-        }
+        seek(s, end, Camera::Arri, self.place)
     }
 }
 
-// What a step of Canon's walk finds.
-pub enum CanonStep {
-    Frame(Frame, Canon),
-    Given(Klv, Canon),
-    Over(Canon),
-    // The end is larger than the buffer.
-    Refused,
-}
-
 impl Canon {
-    // The next frame or given value before the end, in file order, with the moved cursor.
-    pub fn step(self, s: &[u8], end: usize) -> CanonStep
-        ensures { λ r. ⌜ r ≡ canonStep (now (s .entry)) end (self .at) (self .number) ⌝ }
+    // The next frame or given value before the end, in file order, with the place to go on from.
+    pub fn step(self, s: &[u8], end: usize) -> FrameStep
+        ensures { λ r. ⌜ told (placeAt (self .place)) r ≡ canonStep (now (s .entry)) end (placeAt (self .place)) ⌝ }
     {
-        if s.len() < end {
-            return CanonStep::Refused;
-        }
-        let number = self.number;
-        let r = seek(s, end, self.at, Camera::Canon);
-        match r {
-            Sought::Found(f) => {
-                let element = f.element;
-                if f.frame {
-                    let after = std::num::wrapping_add_u64(number, 1);
-                    return CanonStep::Frame(
-                        Frame {
-                            number,
-                            element,
-                            overlong: f.overlong,
-                        },
-                        Canon {
-                            at: f.next,
-                            number: after,
-                        },
-                    );
-                }
-                CanonStep::Given(element, Canon { at: f.next, number })
-            }
-            Sought::Over(at) => CanonStep::Over(Canon { at, number }),
-        }
+        seek(s, end, Camera::Canon, self.place)
     }
 }

@@ -3,7 +3,7 @@ use Prim.Native.Nat.{ℕ}
 use mathlib.Core.List.{List, [], _∷_}
 use lib.ListN.{getD}
 use lib.Dec.{ltb}
-use Rattle.frame_walks.specs.declared.Frame as frames
+use Rattle.frame_walks.specs.declared.FrameElement.{FrameElement}
 use Rattle.frame_values.specs.declared.Single.the-variants as single
 use Rattle.frame_values.specs.declared.Double.the-variants as double
 use Rattle.frame_values.specs.declared.Whole32.the-variants as whole32
@@ -18,7 +18,7 @@ use Rattle.arri_values.specs.declared.Values.{Values}
 use Rattle.arri_values.specs.declared.Values.the-variants as values
 
 -- the frame of four places: the element's place, the value's place and length, over-long where the last is not 0
-unfoldable pub frameOf : List ℕ → frames.Frame
+unfoldable pub frameOf : List ℕ → FrameElement
 frameOf f = record {
   number = 0;
   element = record { at = getD f 0 0; value = getD f 1 0; len = getD f 2 0 };

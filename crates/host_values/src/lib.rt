@@ -122,7 +122,7 @@ fn frame_in(v: Values, out: &mut [u64; 1]) -> Frame
 }
 
 // The frame that four places of a step speak of. Values ask nothing of its number.
-fn frame_of(frame: &[u64; 4]) -> frame_walks::Frame
+fn frame_of(frame: &[u64; 4]) -> frame_walks::FrameElement
     ensures { λ r. ⌜ r ≡ frameOf (now (frame .entry)) ⌝ }
 {
     let at = frame[0];
@@ -135,7 +135,7 @@ fn frame_of(frame: &[u64; 4]) -> frame_walks::Frame
         len: len as usize,
     };
     let overlong = 0 < mark;
-    frame_walks::Frame {
+    frame_walks::FrameElement {
         number: 0,
         element,
         overlong,

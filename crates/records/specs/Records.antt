@@ -1,4 +1,4 @@
--- The lists of records: document 01, "The walk". It starts at 0; each step takes the cursor and hands back the next one.
+-- The lists of records: docs/RULES.md, "The walk". It starts at 0; each step takes the cursor and hands back the next one.
 use Prim.Native.Nat.{ℕ}
 use mathlib.Core.List.{List}
 use lib.ListN.{length}
@@ -21,13 +21,14 @@ finishedFrom s e p = finishedListBy stepped s e p
 abbrev pub finished : List ℕ → List Item
 finished s = finishedFrom s (length s) 0
 
--- the arriving list of the bytes a within a limit, from p on and from 0
+-- the arriving list of the bytes a within a limit, from p on
 abbrev pub arrivingFrom : ℕ → List ℕ → ℕ → List Item
 arrivingFrom limit a p = arrivingListBy stepped limit a p
 
-abbrev pub arriving : ℕ → List ℕ → List Item
-arriving limit a = arrivingFrom limit a 0
+-- the cursor where the finished walk from p on is over
+abbrev pub endsAt : List ℕ → ℕ → ℕ → ℕ
+endsAt s e p = endFrom (finishedBy stepped s e) e p
 
--- the cursor where the arriving walk of a from 0 waits
-abbrev pub waitsAt : ℕ → List ℕ → ℕ
-waitsAt limit a = endFrom (arrivingBy stepped limit a) (length a) 0
+-- and where the arriving walk of a from p on waits
+abbrev pub waitsAt : ℕ → List ℕ → ℕ → ℕ
+waitsAt limit a p = endFrom (arrivingBy stepped limit a) (length a) p

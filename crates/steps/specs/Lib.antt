@@ -1,3 +1,5 @@
 pub mod Told
 pub mod Listed
-pub mod Wanted
+pub mod Tells
+pub mod Next
+pub mod Steps

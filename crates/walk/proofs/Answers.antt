@@ -18,6 +18,27 @@ use Rattle.walk.specs.declared.Arrived.the-variants as arrived
 use Rattle.walk.specs.Walk.{walked, finishedAfter, finishedBy, arrivingAfter, arrivingBy, stepped, finishedStep, arrivingStep}
 use Rattle.walk.specs.Told.{stepTold, arrivedTold}
 
+-- only an end past the buffer, or bytes past the limit, are refused
+
+module _ (next : Item → ℕ) (s : List ℕ) where
+  pub finished-never : (e p n q : ℕ) → finishedBy next s e p ≡ refused n q → ⊥
+  unfolding finishedBy finishedAfter
+  finished-never e p n q = go (walked 0 s e p)
+    where
+      go : (w : Walked) → finishedAfter next s e w ≡ refused n q → ⊥
+      go (Found k) x = let z : _≡_ {A = ℕ} 0 1 = cc in omega arith
+      go (Stopped r) x = let z : _≡_ {A = ℕ} 0 1 = cc in omega arith
+      go (Lost r) x = let z : _≡_ {A = ℕ} 0 1 = cc in omega arith
+
+  pub arriving-never : (limit p n q : ℕ) → arrivingBy next limit s p ≡ refused n q → ⊥
+  unfolding arrivingBy arrivingAfter
+  arriving-never limit p n q = go (walked limit s (length s) p)
+    where
+      go : (w : Walked) → arrivingAfter next s w ≡ refused n q → ⊥
+      go (Found k) x = let z : _≡_ {A = ℕ} 0 1 = cc in omega arith
+      go (Stopped r) x = let z : _≡_ {A = ℕ} 0 1 = cc in omega arith
+      go (Lost r) x = let z : _≡_ {A = ℕ} 0 1 = cc in omega arith
+
 module _ (s : List ℕ) (e p : ℕ) where
   pub finished-refused : length s < e → finishedStep s e p ≡ refused 1 p
   unfolding finishedStep
@@ -63,14 +84,8 @@ module _ (s : List ℕ) (e p : ℕ) where
         go (Stopped r) w = let y = finished-stopped r w in rw w (sym y ∙ x)
         go (Lost r) w = let y = finished-lost r w in rw w (sym y ∙ x)
 
-    -- within the buffer nothing is refused
     pub not-refused : (n q : ℕ) → finishedStep s e p ≡ refused n q → ⊥
-    not-refused n q x = go (walked 0 s e p) refl
-      where
-        go : (w : Walked) → walked 0 s e p ≡ w → ⊥
-        go (Found k) w = let y = finished-found k w in let z : _≡_ {A = ℕ} 0 1 = cc in omega arith
-        go (Stopped r) w = let y = finished-stopped r w in let z : _≡_ {A = ℕ} 0 1 = cc in omega arith
-        go (Lost r) w = let y = finished-lost r w in let z : _≡_ {A = ℕ} 0 1 = cc in omega arith
+    not-refused n q x = finished-never stepped s e p n q (sym finished-within ∙ x)
 
 module _ (limit : ℕ) (a : List ℕ) (p : ℕ) where
   pub arriving-refused : limit < length a → arrivingStep limit a p ≡ refused 2 p
@@ -94,14 +109,8 @@ module _ (limit : ℕ) (a : List ℕ) (p : ℕ) where
     unfolding arrivingStep arrivingBy arrivingAfter
     arriving-lost q w = simp (le-ltb _ _ h, w)
 
-    -- within the limit nothing is refused
     pub not-past-limit : (n q : ℕ) → arrivingStep limit a p ≡ refused n q → ⊥
-    not-past-limit n q x = go (walked limit a (length a) p) refl
-      where
-        go : (w : Walked) → walked limit a (length a) p ≡ w → ⊥
-        go (Found k) w = let y = arriving-found k w in let z : _≡_ {A = ℕ} 0 1 = cc in omega arith
-        go (Stopped r) w = let y = arriving-stopped r w in let z : _≡_ {A = ℕ} 0 1 = cc in omega arith
-        go (Lost r) w = let y = arriving-lost r w in let z : _≡_ {A = ℕ} 0 1 = cc in omega arith
+    not-past-limit n q x = arriving-never stepped a limit p n q (sym arriving-within ∙ x)
 
 -- two answers of a step that say the same are the same
 pub step-once : (s : List ℕ) (p : ℕ) (a b : Step) → stepTold s p a ≡ stepTold s p b → a ≡ b

@@ -6,6 +6,7 @@ use mathlib.Core.Logic.{by-cases}
 use native.Mathlib.Omega.{arith}
 use native.Mathlib.Decide.{decLt}
 use borrow.Author.Tests.{le-ltb, lt-ltb}
+use Rattle.steps.proofs.Laws as laws
 use Rattle.search.specs.Search.{searchFrom}
 use Rattle.search.proofs.Laws.{search-up}
 use Rattle.klv.specs.declared.Klv.{Klv}
@@ -26,35 +27,26 @@ module _ (s : List ℕ) (e : ℕ) where
   unfolding onTurn
   turn-lost again p q h = simp (le-ltb _ _ h)
 
-  -- a turn goes on only where a search finds a key below e
-  turn-same : (f g : ℕ → Walked) (p : ℕ) (t : Turn) → ((q : ℕ) → t ≡ Search q → searchFrom s e q < e → f (searchFrom s e q) ≡ g (searchFrom s e q))
-      → onTurn f s e p t ≡ onTurn g s e p t
-  unfolding onTurn
-  turn-same f g p Stop h = refl
-  turn-same f g p (Search q) h =
-      by-cases (decLt (searchFrom s e q) e)
-      (λ l. turn-found f p q l ∙ h q refl l ∙ sym (turn-found g p q l))
-      (λ l. turn-lost f p q (omega arith) ∙ sym (turn-lost g p q (omega arith)))
-  turn-same f g p (Record k) h = refl
-
 module _ (limit : ℕ) (s : List ℕ) (e : ℕ) where
   -- a search goes up from the place that asks for it
   pub up : (p q : ℕ) → rules limit s e p ≡ Search q → (p < searchFrom s e q) × (p < e)
   up p q x = omega (arith, rules-moves limit s e p q x, search-up s e q)
 
-  enough : (f g p : ℕ) → e - p < f → e - p < g → turnsAtMost limit s e f p ≡ turnsAtMost limit s e g p
-  unfolding turnsAtMost
-  enough zero g p h k = absurd (omega arith)
-  enough (suc f) zero p h k = absurd (omega arith)
-  enough (suc f) (suc g) p h k =
-      turn-same s e (turnsAtMost limit s e f) (turnsAtMost limit s e g) p (rules limit s e p)
-      (λ q x l. let m = up p q x in enough f g (searchFrom s e q) (omega arith) (omega arith))
+  turn-same : (f g : ℕ → Walked) (p : ℕ) → ((q : ℕ) → e - q < e - p → f q ≡ g q) → onTurn f s e p (rules limit s e p) ≡ onTurn g s e p (rules limit s e p)
+  unfolding onTurn
+  turn-same f g p h = go (rules limit s e p) refl
+    where
+      go : (t : Turn) → rules limit s e p ≡ t → onTurn f s e p t ≡ onTurn g s e p t
+      go Stop t = refl
+      go (Search q) t =
+          by-cases (decLt (searchFrom s e q) e)
+          (λ l. let m = up p q t in turn-found s e f p q l ∙ h (searchFrom s e q) (omega arith) ∙ sym (turn-found s e g p q l))
+          (λ l. turn-lost s e f p q (omega arith) ∙ sym (turn-lost s e g p q (omega arith)))
+      go (Record k) t = refl
 
   pub turn-by-turn : (p : ℕ) → walked limit s e p ≡ onTurn (walked limit s e) s e p (rules limit s e p)
   unfolding turnsAtMost walked
-  turn-by-turn p =
-      turn-same s e (turnsAtMost limit s e (e - p)) (λ q. turnsAtMost limit s e (suc (e - q)) q) p (rules limit s e p)
-      (λ q x l. let m = up p q x in enough (e - p) (suc (e - searchFrom s e q)) (searchFrom s e q) (omega arith) (omega arith))
+  turn-by-turn = laws.turn-by-turn (turnsAtMost limit s e) (λ again p. onTurn again s e p (rules limit s e p)) (λ fuel p. refl) (λ p. e - p) turn-same
 
   module _ (p : ℕ) where
     pub walk-stop : rules limit s e p ≡ Stop → walked limit s e p ≡ Stopped p
