@@ -3,7 +3,8 @@
 // (`alexa35_values`).
 ghost use mathlib.Core.Path.{_≡_};
 ghost use Rattle.arri_alexa35_values.specs.Values.{valuesOn};
-ghost use Rattle.arri_alexa35.specs.Items.{inSet, after};
+ghost use Rattle.items.specs.After.{after};
+ghost use Rattle.arri_alexa35.specs.Items.{inSet};
 ghost use Rattle.arri_alexa35.specs.Alexa.{alexaOf};
 use arri_alexa35_items::number_in;
 use arri_alexa35_values::Values;

@@ -8,11 +8,10 @@ use lib.ListN.{length, take, drop, length-take, length-drop}
 use lib.Dec.{T, leb, leb→le, eqb}
 use Rattle.steps.specs.Told.{Told, found, nothing, refused}
 use Rattle.steps.specs.Listed.{before, atMost, listFrom}
-use Rattle.parts.specs.Number.{numberOf}
 use Rattle.parts.proofs.Parts.{part-length}
 use Rattle.labels.specs.Label.{sameLabel}
 use Rattle.klv.specs.declared.Klv.{Klv}
-use Rattle.klv.specs.Item.{Item, valueOf}
+use Rattle.klv.specs.Item.{Item, tagOf, valueOf}
 use Rattle.items.specs.Items.{itemStep, runOf, itemsOf}
 use Rattle.items.proofs.Laws.{item-fits}
 use Rattle.arri_block.specs.declared.Block.{Block}
@@ -68,7 +67,7 @@ module _ (key : ℕ) (ber : Bool) (s : List ℕ) where
           → Ends (inItems (before (λ q. atMost (itemStep key ber s) fuel q) t)) (length s)
       go rest (found i q) e =
           let f = item-fits key ber s p i q e in
-          cond-ends (eqb (numberOf (i .key)) 0x8200) _ _ (length s)
+          cond-ends (eqb (tagOf i) 0x8200) _ _ (length s)
           (whole (i .klv) (omega arith) (leb 256 (i .klv .len)) (leb→le 256 (i .klv .len)))
           (rest q)
       go rest (nothing q) e = no-block
@@ -90,7 +89,7 @@ pub block-ends : (s : List ℕ) → Ends (blockOf s) (length s)
 unfolding blockOf itemsOf listFrom inElementItem
 block-ends s =
     first-ends 1 false s (inElementItem s)
-    (λ i h. cond-ends (eqb (numberOf (i .key)) 0x88) _ _ (length s)
+    (λ i h. cond-ends (eqb (tagOf i) 0x88) _ _ (length s)
     (part-ends s (i .klv .value) (i .klv .len) _ (omega arith) (run-ends (valueOf s i))) no-block)
     _ 0
 

@@ -5,8 +5,7 @@ use mathlib.Core.List.{List}
 use mathlib.Core.Bool.{Bool}
 use borrow.Author.Tests.{eq-eqb, ne-eqb}
 use Rattle.steps.specs.Told.{found, nothing}
-use Rattle.parts.specs.Number.{numberOf}
-use Rattle.klv.specs.Item.{Item}
+use Rattle.klv.specs.Item.{Item, tagOf}
 use Rattle.items.specs.Items.{itemStep}
 use Rattle.items.proofs.From.{itemsFrom, no-items, one-more}
 use Rattle.arri_block.specs.declared.Block.{Block}
@@ -25,11 +24,11 @@ module _ (key : ℕ) (ber : Bool) (s : List ℕ) (p : ℕ) where
     first-passed look h = rw (one-more key ber s p i q e, h)
 
     -- of the first item 8200h
-    pub tag-hit : numberOf (i .key) ≡ 0x8200 → inItems (itemsFrom key ber s p) ≡ firstBytes (i .klv)
+    pub tag-hit : tagOf i ≡ 0x8200 → inItems (itemsFrom key ber s p) ≡ firstBytes (i .klv)
     unfolding inItems
     tag-hit h = rw (one-more key ber s p i q e, eq-eqb _ _ h)
 
-    pub tag-passed : (numberOf (i .key) ≡ 0x8200 → ⊥) → inItems (itemsFrom key ber s p) ≡ inItems (itemsFrom key ber s q)
+    pub tag-passed : (tagOf i ≡ 0x8200 → ⊥) → inItems (itemsFrom key ber s p) ≡ inItems (itemsFrom key ber s q)
     unfolding inItems
     tag-passed h = rw (one-more key ber s p i q e, ne-eqb _ _ h)
 

@@ -6,10 +6,9 @@ use mathlib.Core.List.{List, [], _∷_}
 use mathlib.Core.Bool.{false, cond}
 use lib.ListN.{take, drop}
 use lib.Dec.{leb, eqb}
-use Rattle.parts.specs.Number.{numberOf}
 use Rattle.labels.specs.Label.{sameLabel}
 use Rattle.klv.specs.declared.Klv.{Klv}
-use Rattle.klv.specs.Item.{Item, valueOf}
+use Rattle.klv.specs.Item.{Item, tagOf, valueOf}
 use Rattle.items.specs.Items.{runOf, itemsOf}
 use Rattle.arri_block.specs.declared.Block.{Block}
 use Rattle.arri_block.specs.declared.Block.the-variants.{At, Nothing}
@@ -40,7 +39,7 @@ firstBytes k = cond (leb 256 (k .len)) (At (k .value)) Nothing
 -- a set's first item 8200h gives them
 unfoldable pub inItems : List Item → Block
 inItems [] = Nothing
-inItems (i ∷ l) = cond (eqb (numberOf (i .key)) 0x8200) (firstBytes (i .klv)) (inItems l)
+inItems (i ∷ l) = cond (eqb (tagOf i) 0x8200) (firstBytes (i .klv)) (inItems l)
 
 -- tags and lengths of 2
 unfoldable pub inSet : List ℕ → Block
@@ -55,7 +54,7 @@ inRun s = firstOf (inRunItem s) (runOf s)
 
 -- in each 88h item a run is read
 unfoldable pub inElementItem : List ℕ → Item → Block
-inElementItem s i = cond (eqb (numberOf (i .key)) 0x88) (placedAt (i .klv .value) (inRun (valueOf s i))) Nothing
+inElementItem s i = cond (eqb (tagOf i) 0x88) (placedAt (i .klv .value) (inRun (valueOf s i))) Nothing
 
 -- an element's items have a tag of 1 and a length of 2
 unfoldable pub blockOf : List ℕ → Block

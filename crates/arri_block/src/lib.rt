@@ -4,8 +4,7 @@
 // one, or none at all: nothing."
 ghost use mathlib.Core.Path.{_≡_};
 ghost use Prim.Native.Nat.{_≤_, _^_};
-ghost use lib.ListN.{length, take, drop};
-ghost use Rattle.parts.specs.Number.{numberOf};
+ghost use lib.ListN.{length};
 ghost use Rattle.klv.specs.Item.{item};
 ghost use Rattle.arri_block.specs.Block.{placedAt, firstBytes, inSet, inRunItem, inRun, inElementItem, blockOf, bytesOf, Ends};
 use items::Coding;
@@ -14,6 +13,8 @@ use items::Held;
 use items::Local;
 use items::Run;
 use klv::Klv;
+use parts::one_at;
+use parts::two_at;
 
 // The lens unit set (RDD 18), whose item 8200h is the frame's dynamic metadata.
 const LENS_UNIT_SET: [u8; 16] =
@@ -24,14 +25,6 @@ pub enum Block {
     // They start there.
     At(usize),
     Nothing,
-}
-
-// The number that a tag of n bytes holds.
-fn tag(s: &[u8], at: usize, n: usize) -> u64
-    requires { ⌜ n ≤ 8 ⌝ }
-    ensures { λ r. ⌜ r ≡ numberOf (take n (drop at (now (s .entry)))) ⌝ }
-{
-    parts::number(parts::part(s, at, n))
 }
 
 // A block of the bytes that start at a place, by its place in the whole.
@@ -66,7 +59,7 @@ fn in_set(s: &[u8]) -> Block
         let Held::Item(k, next) = step else {
             return Block::Nothing;
         };
-        if tag(s, k.at, 2) == 0x8200 {
+        if two_at(s, k.at) == 0x8200 {
             return first_bytes(k);
         }
         at = next.at;
@@ -108,7 +101,7 @@ fn in_element_item(s: &[u8], k: Klv) -> Block
     requires { ⌜ k .value ≤ length (now s) ⌝ }
     ensures { λ r. ⌜ r ≡ inElementItem (now (s .entry)) (item 1 (now (s .entry)) k) ⌝ }
 {
-    if tag(s, k.at, 1) == 0x88 {
+    if one_at(s, k.at) == 0x88 {
         placed_at(k.value, in_run(k.bytes(s)))
     } else {
         Block::Nothing

@@ -8,7 +8,7 @@ use Rattle.frame_walks.specs.declared.Frame.{Frame}
 use Rattle.frame_walks.specs.Labels.{frameData}
 use Rattle.arri_block.specs.declared.Block.{Block}
 use Rattle.arri_block.specs.declared.Block.the-variants as block
-use Rattle.arri_block.specs.Block.{blockOf}
+use Rattle.arri_block.specs.Block.{blockOf, bytesOf}
 use Rattle.arri_mini.specs.Dynamic.{dynamicOf}
 use Rattle.arri_alexa35.specs.Alexa.{alexaOf}
 use Rattle.arri_values.specs.declared.Values.{Values}
@@ -16,7 +16,7 @@ use Rattle.arri_values.specs.declared.Values.the-variants.{Are, Nothing}
 
 -- an ALEXA Mini's 256 bytes, where the element has them
 unfoldable pub ofBlock : List ℕ → Block → Values
-ofBlock element (block.At at) = Are (dynamicOf (take 256 (drop at element)))
+ofBlock element (block.At at) = Are (dynamicOf (bytesOf element (block.At at)))
 ofBlock element block.Nothing = Nothing
 
 abbrev pub miniOf : List ℕ → Values

@@ -17,10 +17,10 @@ fn mini(element: &[u8]) -> Values
     ensures { λ r. ⌜ r ≡ miniOf (now (element .entry)) ⌝ }
 {
     let b = arri_block::find(element);
-    let Block::At(at) = b else {
+    let Block::At(_) = b else {
         return Values::Nothing;
     };
-    Values::Are(arri_mini::of_dynamic(parts::part(element, at, 256)))
+    Values::Are(arri_mini::of_dynamic(arri_block::bytes(element, b)))
 }
 
 // The values in an element, by its label.

@@ -36,7 +36,7 @@ fn next_item(s: &[u8], from: usize, end: usize) -> Turn
     let Held::Item(k, next) = t else {
         return Turn::Over;
     };
-    if s[end] == 0x88 {
+    if parts::one_at(s, k.at) == 0x88 {
         return Turn::On(k.value, next.at);
     }
     Turn::On(next.at, next.at)

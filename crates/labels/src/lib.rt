@@ -10,9 +10,6 @@ pub const KEY_START: [u8; 4] = *b"\x06\x0e\x2b\x34";
 // (ST 377-1).
 pub const PARTITION_PREFIX: [u8; 13] = *b"\x06\x0e\x2b\x34\x02\x05\x01\x01\x0d\x01\x02\x01\x01";
 
-// The primer pack (ST 377-1).
-pub const PRIMER: [u8; 16] = *b"\x06\x0e\x2b\x34\x02\x05\x01\x01\x0d\x01\x02\x01\x01\x05\x01\x00";
-
 // Whether the first is a beginning of the second.
 pub fn begins(l: &[u8], k: &[u8]) -> bool
     ensures { λ r. ⌜ r ≡ beginning (now (l .entry)) (now (k .entry)) ⌝ }

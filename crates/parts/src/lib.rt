@@ -3,7 +3,7 @@
 ghost use mathlib.Core.Path.{_≡_};
 ghost use Prim.Native.Nat.{_-_, _%_, _^_, min};
 ghost use lib.ListN.{take, drop};
-ghost use Rattle.parts.specs.Number.{numberOf};
+ghost use Rattle.parts.specs.Number.{numberOf, oneAt, twoAt, fourAt};
 
 // The smaller of two.
 pub fn lesser(a: usize, b: usize) -> usize
@@ -55,16 +55,23 @@ pub fn number_at(s: &[u8], at: usize, n: usize) -> u64
     number(part(s, at, n))
 }
 
+// The byte at a place, or 0 where none is there.
+pub fn one_at(s: &[u8], at: usize) -> u8
+    ensures { λ r. ⌜ r ≡ oneAt (now (s .entry)) at ⌝ }
+{
+    number_at(s, at, 1) as u8
+}
+
 // The number that the two bytes at a place hold: as many of them as are there.
 pub fn two_at(s: &[u8], at: usize) -> u16
-    ensures { λ r. ⌜ r ≡ numberOf (take 2 (drop at (now (s .entry)))) ⌝ }
+    ensures { λ r. ⌜ r ≡ twoAt (now (s .entry)) at ⌝ }
 {
     number_at(s, at, 2) as u16
 }
 
 // The number that the four bytes at a place hold: as many of them as are there.
 pub fn four_at(s: &[u8], at: usize) -> u32
-    ensures { λ r. ⌜ r ≡ numberOf (take 4 (drop at (now (s .entry)))) ⌝ }
+    ensures { λ r. ⌜ r ≡ fourAt (now (s .entry)) at ⌝ }
 {
     number_at(s, at, 4) as u32
 }

@@ -16,17 +16,6 @@ pub fn signed16(v: u16) -> i16
     }
 }
 
-// The 32 bits of v as a signed number.
-pub fn signed32(v: u32) -> i32
-    ensures { λ r. ⌜ r ≡ signedBits 32 v ⌝ }
-{
-    if v < 2147483648 {
-        v as i32
-    } else {
-        -1 - ((4294967295 - v) as i32)
-    }
-}
-
 // The 64 bits of v as a signed number.
 pub fn signed64(v: u64) -> i64
     ensures { λ r. ⌜ r ≡ signedBits 64 v ⌝ }
