@@ -12,8 +12,8 @@ use arri_alexa35_values::frame_of;
 use arri_alexa35_values::none;
 use arri_alexa35_values::values_on;
 use frame_values::Frame;
-use items::Found;
 use items::Run;
+use items::RunNext;
 
 // What a set's items leave of the values.
 fn after_set(values: Values, set: &[u8]) -> Values
@@ -23,7 +23,7 @@ fn after_set(values: Values, set: &[u8]) -> Values
     let mut at = 0;
     loop {
         let step = Run { at }.step(set);
-        let Found::Item(i, next) = step else {
+        let RunNext::Item(i, next) = step else {
             return k;
         };
         k = values_on(k, number_in(i.label(set)), i.bytes(set));
@@ -39,7 +39,7 @@ pub fn of_alexa35(element: &[u8]) -> Frame
     let mut at = 0;
     loop {
         let step = Run { at }.step(element);
-        let Found::Item(i, next) = step else {
+        let RunNext::Item(i, next) = step else {
             return frame_of(k);
         };
         k = after_set(k, i.bytes(element));

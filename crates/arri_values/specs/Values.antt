@@ -3,11 +3,10 @@ use Prim.Native.Nat.{ℕ}
 use mathlib.Core.List.{List}
 use mathlib.Core.Bool.{cond}
 use lib.ListN.{take, drop}
+use Rattle.parts.specs.Answer.{Answer, is, none}
 use Rattle.labels.specs.Label.{agreeBut, labelAt}
 use Rattle.frame_walks.specs.declared.Frame.{Frame}
 use Rattle.frame_walks.specs.Labels.{frameData}
-use Rattle.arri_block.specs.declared.Block.{Block}
-use Rattle.arri_block.specs.declared.Block.the-variants as block
 use Rattle.arri_block.specs.Block.{blockOf, bytesOf}
 use Rattle.arri_mini.specs.Dynamic.{dynamicOf}
 use Rattle.arri_alexa35.specs.Alexa.{alexaOf}
@@ -15,9 +14,9 @@ use Rattle.arri_values.specs.declared.Values.{Values}
 use Rattle.arri_values.specs.declared.Values.the-variants.{Are, Nothing}
 
 -- an ALEXA Mini's 256 bytes, where the element has them
-unfoldable pub ofBlock : List ℕ → Block → Values
-ofBlock element (block.At at) = Are (dynamicOf (bytesOf element (block.At at)))
-ofBlock element block.Nothing = Nothing
+unfoldable pub ofBlock : List ℕ → Answer ℕ → Values
+ofBlock element (is at) = Are (dynamicOf (bytesOf element (is at)))
+ofBlock element none = Nothing
 
 abbrev pub miniOf : List ℕ → Values
 miniOf element = ofBlock element (blockOf element)

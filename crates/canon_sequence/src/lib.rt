@@ -5,8 +5,8 @@ ghost use Prim.Native.Nat.{_+_, _≤_};
 ghost use lib.ListN.{length};
 ghost use Rattle.canon_sequence.specs.Sequence.{positionAfter, identifierAfter, fieldsAfter, empty, sequenceOf};
 use items::Coding;
-use items::Held;
 use items::Local;
+use items::LocalNext;
 use klv::Klv;
 use parts::number_at;
 use parts::two_at;
@@ -94,7 +94,7 @@ pub fn read(s: &[u8]) -> Sequence
     loop {
         let c = Local { at };
         let t = c.step(s, Coding::TWO_TWO);
-        let Held::Item(k, next) = t else {
+        let LocalNext::Item(k, next) = t else {
             return q;
         };
         q = fields_after(s, two_at(s, k.at), k, q);

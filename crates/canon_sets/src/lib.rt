@@ -6,10 +6,10 @@ ghost use mathlib.Core.List.{[]};
 ghost use Rattle.canon_sets.specs.Package.{valuesFrom, inRun};
 ghost use Rattle.canon_sets.specs.Told.{told, firstOf, Turned};
 use items::Coding;
-use items::Found;
-use items::Held;
 use items::Local;
+use items::LocalNext;
 use items::Run;
+use items::RunNext;
 use klv::Klv;
 
 // The packs of a camera.
@@ -33,7 +33,7 @@ fn next_item(s: &[u8], from: usize, end: usize) -> Turn
 {
     let c = Local { at: end };
     let t = c.step(s, Coding::ONE_TWO);
-    let Held::Item(k, next) = t else {
+    let LocalNext::Item(k, next) = t else {
         return Turn::Over;
     };
     if parts::one_at(s, k.at) == 0x88 {
@@ -50,7 +50,7 @@ fn turn_at(s: &[u8], from: usize, end: usize) -> Turn
     let run = parts::part(s, 0, end);
     let c = Run { at: from };
     let t = c.step(run);
-    let Found::Item(k, next) = t else {
+    let RunNext::Item(k, next) = t else {
         return next_item(s, from, end);
     };
     if labels::same_label(k.label(run), &PRIVATE_CAMERA_METADATA) {

@@ -7,8 +7,8 @@ ghost use lib.ListN.{length};
 ghost use Rattle.descriptor.specs.Fields.{holds, wholeAfter, finiteRate, rateAfter, areaAfter, fieldsAfter, noArea, empty};
 ghost use Rattle.descriptor.specs.Descriptor.{told, descriptorTold};
 use items::Coding;
-use items::Held;
 use items::Local;
+use items::LocalNext;
 use klv::Klv;
 use parts::four_at;
 use parts::number_at;
@@ -194,7 +194,7 @@ pub fn read(s: &[u8]) -> Answer
     loop {
         let c = Local { at };
         let t = c.step(s, Coding::TWO_TWO);
-        let Held::Item(k, next) = t else {
+        let LocalNext::Item(k, next) = t else {
             if s.len() - at < 4 {
                 return Answer::Is(d);
             }

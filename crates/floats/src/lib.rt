@@ -43,8 +43,8 @@ const INFINITY_F64: u64 = 0x7ff0_0000_0000_0000;
 
 const SIGN_F64: u64 = 0x8000_0000_0000_0000;
 
-// a less b, or 0 where b is larger.
-fn less(a: u64, b: u64) -> u64
+// a - b, or 0 where b is the larger.
+fn saturating_sub(a: u64, b: u64) -> u64
     ensures { λ r. ⌜ r ≡ a - b ⌝ }
 {
     if a < b { 0 } else { a - b }
@@ -108,8 +108,8 @@ pub fn narrow_f32(x: f64) -> f32
     let bits = f64::to_bits(x);
     let field = bits / EXPONENT_F64 % 2048;
     let digits = bits % EXPONENT_F64 + EXPONENT_F64;
-    let dropped = 29 + least(less(897, field), 34);
-    let magnitude = packed_f32(less(field, 897), digits, dropped as u32);
+    let dropped = 29 + least(saturating_sub(897, field), 34);
+    let magnitude = packed_f32(saturating_sub(field, 897), digits, dropped as u32);
     let sign = (bits / SIGN_F64) as u32;
     f32::from_bits(sign * SIGN_F32 + magnitude)
 }

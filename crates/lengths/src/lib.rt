@@ -3,7 +3,7 @@
 ghost use mathlib.Core.Path.{_≡_};
 ghost use Rattle.lengths.specs.Length.{lengthAt, twoBytesAt};
 use parts::number;
-use parts::wide;
+use parts::u64_of;
 
 // A length: its value, and how many bytes it took.
 pub struct Field {
@@ -30,7 +30,7 @@ pub fn read(s: &[u8], at: usize) -> Length
     let first = s[at];
     if first < 0x80 {
         return Length::Is(Field {
-            value: wide(first),
+            value: u64_of(first),
             size: 1,
         });
     }

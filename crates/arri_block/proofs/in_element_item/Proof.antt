@@ -7,7 +7,7 @@ use borrow.Author.Tests.{eq-eqb, ne-eqb}
 use denote.Ref.{now}
 use lib.ListN.{take, drop}
 use Rattle.parts.specs.Number.{oneAt}
-use Rattle.arri_block.specs.Block.{placedAt, inRun, inElementItem}
+use Rattle.arri_block.specs.Block.{told, placedAt, inRun, inElementItem}
 use Rattle.arri_block.proofs.Ending.{part-ends, run-ends}
 use borrow.Author.Needs.{needs}
 use Rattle.arri_block.proofs.in_element_item.Statement.{statement}
@@ -16,7 +16,7 @@ use Rattle.arri_block.proofs.in_element_item.Tie as tie
 abbrev part-of : tie.After-in-run → List ℕ
 part-of c = take (c .before .before .before .before .before .args .k .len) (drop (c .before .before .before .before .before .args .k .value) (now (c .before .before .before .before .before .args .s)))
 
-is-block : (c : tie.After-in-run) → c .in-run .result ≡ inRun (part-of c)
+is-block : (c : tie.After-in-run) → told (c .in-run .result) ≡ inRun (part-of c)
 is-block c = c .in-run .ensures ∙ ap inRun (c .before .bytes .ensures)
 
 one-at-requires : tie.Need-one-at-requires
@@ -35,7 +35,7 @@ placed-at-requires c κs = λ p e.
 
 returns : tie.Need-returns
 unfolding inElementItem oneAt
-returns c = rw (c .placed-at .ensures, is-block (c .before)) (simp (eq-eqb _ _ (sym (c .before .before .before .before .one-at .ensures) ∙ c .before .before .before .if1 .taken)))
+returns c = c .placed-at .ensures ∙ rw (is-block (c .before)) (simp (eq-eqb _ _ (sym (c .before .before .before .before .one-at .ensures) ∙ c .before .before .before .if1 .taken)))
 
 returns-2 : tie.Need-returns-2
 unfolding inElementItem oneAt

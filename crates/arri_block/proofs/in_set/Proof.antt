@@ -9,7 +9,7 @@ use Rattle.steps.specs.Told.{found}
 use Rattle.parts.specs.Number.{twoAt}
 use Rattle.klv.specs.Item.{item}
 use Rattle.items.specs.Items.{itemStep, itemsOf}
-use Rattle.items.proofs.From.{itemsFrom, held-item, held-end}
+use Rattle.items.proofs.From.{itemsFrom, local-item, local-end}
 use Rattle.items.proofs.Laws.{item-fits}
 use Rattle.arri_block.specs.Block.{inItems, inSet}
 use Rattle.arri_block.proofs.Laws.{tag-end, tag-hit, tag-passed}
@@ -27,7 +27,7 @@ abbrev μ-loop : tie.MeasureT-loop
 is-found : (k : tie.After-step2 Inv-loop μ-loop)
     → itemStep 2 false (now (k .before .before .before .before .before .args .s)) (k .before .before .before .loop .at)
     ≡ found (item 2 (now (k .before .before .before .before .before .args .s)) (k .step2 .given .0 .0)) (k .step2 .given .0 .1 .0 .at)
-is-found k = held-item 2 false _ _ _ (k .before .before .step .ensures) _ _ (k .step2 .given .1)
+is-found k = local-item 2 false _ _ _ (k .before .before .step .ensures) _ _ (k .step2 .given .1)
 
 loop-holds : tie.Need-loop-holds Inv-loop μ-loop
 unfolding inSet itemsOf
@@ -45,7 +45,7 @@ enum-told c = search needs
 returns : tie.Need-returns Inv-loop μ-loop
 returns c =
     let l = c .before .before .before in
-    sym (tag-end 2 false _ _ (held-end 2 false _ _ _ (c .before .before .step .ensures) (c .enum-told .given .1))) ∙ l .loop .inv
+    sym (tag-end 2 false _ _ (local-end 2 false _ _ _ (c .before .before .step .ensures) (c .enum-told .given .1))) ∙ l .loop .inv
 
 two-at-requires : tie.Need-two-at-requires Inv-loop μ-loop
 two-at-requires c κs = search needs

@@ -16,7 +16,7 @@ enum-told-2 c = search needs
 
 returns : tie.Need-returns
 unfolding ofBlock
-returns c = rw (sym (c .before .before .find .ensures) ∙ c .enum-told2 .given .1)
+returns c = rw (sym (c .before .before .find .ensures), c .enum-told2 .given .1)
 
 bytes-requires : tie.Need-bytes-requires
 bytes-requires c κs = search needs
