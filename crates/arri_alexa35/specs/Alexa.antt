@@ -1,4 +1,4 @@
--- A frame of the ALEXA 35 by its items' numbers: document 01, "Frame values", and the table of `Frame::of_alexa35`.
+-- A frame of the ALEXA 35 by its items' numbers: docs/RULES.md, "Frame values", and the table of `Frame::of_alexa35`.
 use Prim.Native.Nat.{ℕ}
 use mathlib.Core.List.{List}
 use mathlib.Core.Bool.{true, false}

@@ -1,4 +1,4 @@
--- The items of an ALEXA 35's frame metadata, in order: document 01, "Frame values".
+-- The items of an ALEXA 35's frame metadata, in order: docs/RULES.md, "Frame values".
 use Prim.Native.Nat.{ℕ}
 use mathlib.Core.List.{List, [], _∷_, _++_, map}
 use Rattle.klv.specs.Item.{Item, valueOf}

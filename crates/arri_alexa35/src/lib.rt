@@ -1,6 +1,6 @@
-// An ALEXA 35's frame metadata (RDD 55) as a frame's values. The element is a run of sets, and each set a run of items;
-// no set's label is checked, and of an item's key bytes 0 to 3 and 8 to 13. The values are gathered in one pass
-// (`alexa35_values`).
+// An ALEXA 35's frame metadata (RDD 55) as a frame's values. The element is a run of sets, and each set a run of items. A
+// set's label is not looked at; of an item's key bytes 0 to 3 and 8 to 13 are. The values are gathered in one pass
+// (`arri_alexa35_values`).
 ghost use mathlib.Core.Path.{_≡_};
 ghost use Rattle.arri_alexa35_values.specs.Values.{valuesOn};
 ghost use Rattle.items.specs.After.{after};

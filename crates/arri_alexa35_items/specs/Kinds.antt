@@ -1,4 +1,4 @@
--- What an item of the ALEXA 35 says: document 01, "Frame values", and the kinds of `Frame::of_alexa35`.
+-- What an item of the ALEXA 35 says: docs/RULES.md, "Frame values", and the kinds of `Frame::of_alexa35`.
 use Prim.Native.Nat.{ℕ, _%_, _^_}
 use mathlib.Core.List.{List, [], _∷_}
 use mathlib.Core.Bool.{Bool, _&&_, cond}

@@ -1,6 +1,6 @@
-// What an item of an ALEXA 35's frame metadata (RDD 55) says, by its number and its value: document 01, "`of_alexa35`
-// focal length likewise; its distances multiply in f64, then narrow once by the same rule"; "An empty whole number is 0;
-// index and balance keep the low 32 bits". A value of another width than its kind's is not usable.
+// What an item of an ALEXA 35's frame metadata (RDD 55) says, by its number and its value: docs/RULES.md, "Frame values". Distances
+// multiply in f64, then narrow once; an empty whole number is 0; index and balance keep the low 32 bits. A value of another
+// width than its kind's is not usable.
 ghost use mathlib.Core.Path.{_≡_};
 ghost use Rattle.arri_alexa35_items.specs.Kinds.{numberIn, floatIn, positiveIn, focalLengthIn, effectiveIn, tStopIn, metresOf, distanceOf, distanceIn, rationalIn, rateIn, exposureIn, wholeIn, lowIn, tintOf, densityOf};
 use frame_values::Distance;

@@ -1,8 +1,7 @@
-// ARRI's 256 bytes in an ALEXA Mini's picture metadata element: docs/RULES.md, "Tables
-// inside values": "An element's items have a tag of 1 and a
-// length of 2. In each 88h item a run is read; in each of its `LENS_UNIT_SET` sets the first item 8200h (2-byte lengths)
-// gives its first 256 bytes, if it has them. The first such block is the answer. An item that isn't whole, met before
-// one, or none at all: nothing."
+// ARRI's 256 bytes in an ALEXA Mini's picture metadata element: docs/RULES.md, "Tables inside values". An element's items have a tag of
+// 1 and a length of 2. In each 88h item a run is read; in each of its `LENS_UNIT_SET` sets the first item 8200h (2-byte
+// lengths) gives its first 256 bytes, if it has them. The first such block is the answer. An item that isn't whole, met
+// before one, or none at all: nothing.
 ghost use mathlib.Core.Path.{_≡_};
 ghost use Prim.Native.Nat.{_≤_, _^_};
 ghost use lib.ListN.{length};

@@ -1,4 +1,4 @@
--- The 256 bytes of an ALEXA Mini's frame: document 01, "Frame values", and the table of offsets of `Frame::of_dynamic`.
+-- The 256 bytes of an ALEXA Mini's frame: docs/RULES.md, "Frame values", and the table of offsets of `Frame::of_dynamic`.
 use Prim.Native.Nat.{ℕ, _/_}
 use mathlib.Core.List.{List}
 use mathlib.Core.Bool.{Bool, _&&_, _||_, not, cond}

@@ -1,7 +1,6 @@
-// The dynamic metadata of an ALEXA Mini's or Mini LF's frame, 256 bytes big-endian, as a frame's values: document 01,
-// "Fields, offsets, sentinels and codes are those of `Frame::of_dynamic`"; "a distance is nothing, infinity or a figure
-// in metres"; "`of_dynamic` turns a u32 into an f32 to the nearest, ties to even, before it divides in f32"; "angles at
-// E0h and E4h are the low 16 bits, signed, over 10". Exposure time and effective focal length are divided in f64.
+// The dynamic metadata of an ALEXA Mini's or Mini LF's frame, 256 bytes big-endian, as a frame's values: docs/RULES.md,
+// "Frame values". Fields, offsets, sentinels and codes are those of `Frame::of_dynamic`. Thousandths are rounded to an f32
+// and then divided in f32; exposure time and effective focal length are divided in f64.
 ghost use mathlib.Core.Path.{_≡_};
 ghost use Rattle.arri_mini.specs.Dynamic.{isSet, isKnown, versionOf, singleOverThousand, shutterOf, angleOf, tStopOf, distanceOf, factorsOf, encoderAt, encodersOf, dynamicOf};
 use frame_values::Colours;

@@ -1,4 +1,4 @@
--- The values of an ARRI frame: document 01, "Frame walks".
+-- The values of an ARRI frame: docs/RULES.md, "Frame walks".
 use Prim.Native.Nat.{ℕ}
 use mathlib.Core.List.{List}
 use mathlib.Core.Bool.{cond}

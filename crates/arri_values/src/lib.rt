@@ -1,4 +1,4 @@
-// The values of an ARRI frame: document 01, "Frame walks" and "Frame values". The element of an ALEXA 35 is read whole,
+// The values of an ARRI frame: docs/RULES.md, "Frame walks" and "Frame values". The element of an ALEXA 35 is read whole,
 // that of an ALEXA Mini for its 256 bytes; a frame that is over-long, or has no such bytes, has no values.
 ghost use mathlib.Core.Path.{_≡_};
 ghost use Rattle.arri_values.specs.Values.{miniOf, elementOf, valuesOf};

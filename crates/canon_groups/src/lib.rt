@@ -1,5 +1,5 @@
-// The fields of Canon's Private Camera Metadata, in six groups, and what a pack makes of each: document 01, "In Canon packs a
-// value of nothing erases nothing." A field has its pack's id; pack 0 is none's.
+// The fields of Canon's Private Camera Metadata, in six groups, and what a pack makes of each: docs/RULES.md, "Frame
+// values". A pack is the fields' that have its id, and pack 0 is none's; a value of nothing erases nothing.
 ghost use mathlib.Core.Path.{_≡_};
 ghost use Rattle.canon_groups.specs.Groups.{after, lensAfter, modesAfter, shutterAfter, balanceAfter, gainAfter, rangesAfter, noLens, noModes, noShutter, noBalance, noGain, noRanges};
 use canon_values::Value;

@@ -1,4 +1,4 @@
--- A Private Camera Metadata: document 01, "Tables inside values", Canon.
+-- A Private Camera Metadata: docs/RULES.md, "Tables inside values", Canon.
 use Prim.Native.Nat.{ℕ, zero, suc, _+_, _-_, _*_, _/_, min}
 use mathlib.Core.List.{List}
 use lib.ListN.{length, getD}

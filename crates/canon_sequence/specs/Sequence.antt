@@ -1,4 +1,4 @@
--- Sequence info: document 01, "Tables inside values", Canon.
+-- Sequence info: docs/RULES.md, "Tables inside values", Canon.
 use Prim.Native.Nat.{ℕ}
 use mathlib.Core.List.{List}
 use mathlib.Core.Bool.{false, cond, _&&_}

@@ -1,5 +1,5 @@
-// Canon's sequence info: document 01, "items with 2 and 2; tags 1501h and 1201h are signed and need exactly 8 bytes, 3C0Ah and
-// 4401h are the item's bytes; the last one stands."
+// Canon's sequence info: docs/RULES.md, "Tables inside values". Items with 2 and 2; tags 1501h and 1201h are signed and need exactly 8
+// bytes, 3C0Ah and 4401h are the item's bytes; the last one stands.
 ghost use mathlib.Core.Path.{_≡_};
 ghost use Prim.Native.Nat.{_+_, _≤_};
 ghost use lib.ListN.{length};

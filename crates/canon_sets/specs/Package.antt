@@ -1,4 +1,4 @@
--- A package set's Private Camera Metadata: document 01, "Tables inside values", Canon.
+-- A package set's Private Camera Metadata: docs/RULES.md, "Tables inside values", Canon.
 use Prim.Native.Nat.{ℕ}
 use mathlib.Core.List.{List, [], _∷_, _++_}
 use mathlib.Core.Bool.{false, cond}

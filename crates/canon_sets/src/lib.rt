@@ -1,5 +1,5 @@
-// Canon's package sets: document 01, "a package set's items have a tag of 1 and a length of 2, up to the first not whole; each
-// `PRIVATE_CAMERA_METADATA` value in an 88h item's run is answered in turn."
+// Canon's package sets: docs/RULES.md, "Tables inside values". A package set's items have a tag of 1 and a length of 2, up to the first
+// not whole; each `PRIVATE_CAMERA_METADATA` value in an 88h item's run is answered in turn.
 ghost use mathlib.Core.Path.{_≡_};
 ghost use Prim.Native.Nat.{_≤_};
 ghost use mathlib.Core.List.{[]};

@@ -1,4 +1,4 @@
--- What a descriptor set says, by document 01's numbers.
+-- What a descriptor set says, by the numbers of docs/RULES.md, "What a call can say".
 use Prim.Native.Nat.{ℕ, _+_}
 use mathlib.Core.List.{List}
 use mathlib.Core.Bool.{false, cond}

@@ -1,4 +1,4 @@
--- The items of a descriptor set: document 01, "Tables inside values", Descriptor items.
+-- The items of a descriptor set: docs/RULES.md, "Tables inside values", Descriptor items.
 use Prim.Native.Nat.{ℕ, _+_}
 use mathlib.Core.List.{List}
 use mathlib.Core.Bool.{Bool, cond, _&&_}

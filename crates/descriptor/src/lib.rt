@@ -1,6 +1,7 @@
-// Descriptor items: document 01, "while 4 bytes are left; an item past the set is refusal 4; above 8 bytes skipped; too short
-// for its type ignored; a longer one gives its first bytes. Rates are f64 quotients; one that isn't finite is stored as
-// nothing, replacing an earlier one." The tags and their order are those of the list in `sony/mxf.rs`.
+// Descriptor items: docs/RULES.md, "Tables inside values". They are read while 4 bytes are left; an item past the set is refusal 4. An
+// item above 8 bytes is skipped, one too short for its type ignored, and a longer one gives its first bytes. Rates are f64
+// quotients; one that isn't finite is stored as nothing, replacing an earlier one. Tags and order are those of the list in
+// `sony/mxf.rs`.
 ghost use mathlib.Core.Path.{_≡_};
 ghost use Prim.Native.Nat.{_+_, _≤_, _<_};
 ghost use lib.ListN.{length};

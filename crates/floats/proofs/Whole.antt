@@ -58,7 +58,7 @@ cancel (fin t m e) s a c C h =
     (h .0, mul-one (m * up e) ∙ eq-of-mul-eq-mul-right c C (m * up e) (a * down e) g)
 
 -- from 2 ^ 24 on
-large : (v : ℕ) → 2 ^ 24 ≤ v → v < 2 ^ 32 → (0 < dropped v) × IsWhole (round binary32 false v 1) (closest v (2 ^ dropped v) * 2 ^ dropped v)
+large : (v : ℕ) → 2 ^ 24 ≤ v → v < 2 ^ 32 → IsWhole (round binary32 false v 1) (closest v (2 ^ dropped v) * 2 ^ dropped v)
 large v l h =
     let t = leading-top 32 v (omega arith) h in
     let z = leadingZeros 32 v in
@@ -72,7 +72,7 @@ large v l h =
     (lt-of-le-of-lt (le-of-eq (sym (pow-add 2 32 (157 - z)))) (pow-lt {i = 32 + (157 - z)} {j = 277} (omega arith))) in
     let value = whole-value v z j (t .1) (t .2) (t .3) 0 d (omega (arith, t .1)) small in
     let whole = cancel (round binary32 false v 1) false (q * 2 ^ d) (2 ^ 149) (pow-pos 149) (subst (λ (x : ℕ). HasValue (round binary32 false v 1) false x (2 ^ 149)) same value) in
-    (omega arith, subst (λ (x : ℕ). IsWhole (round binary32 false v 1) (closest x (2 ^ d) * 2 ^ d)) (mul-one v) whole)
+    subst (λ (x : ℕ). IsWhole (round binary32 false v 1) (closest x (2 ^ d) * 2 ^ d)) (mul-one v) whole
 
 -- below it nothing is dropped
 none : (v : ℕ) → v < 2 ^ 24 → dropped v ≡ 0
@@ -92,7 +92,7 @@ unfolding nearestF32 ofInt
 low-bits-dropped v h = go (leb (2 ^ 24) v) (leb→le (2 ^ 24) v) (nleb→lt (2 ^ 24) v)
   where
     go : (b : Bool) → (T b → 2 ^ 24 ≤ v) → (T (not b) → v < 2 ^ 24) → IsWhole (round binary32 false v 1) (closest v (2 ^ dropped v) * 2 ^ dropped v)
-    go true l g = large v (l tt) h .1
+    go true l g = large v (l tt) h
     go false l g = small v (g tt)
 
 -- at most 8 bits are dropped, which is 128 at most either way

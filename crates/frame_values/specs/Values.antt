@@ -1,4 +1,4 @@
--- What the numbers of a frame's metadata say, each kind once: document 01, "Frame values".
+-- What the numbers of a frame's metadata say, each kind once: docs/RULES.md, "Frame values".
 use Prim.Native.Nat.{ℕ, _^_}
 use mathlib.Core.Bool.{Bool, _&&_, cond}
 use lib.Dec.{ltb}

@@ -1,5 +1,5 @@
-// One record holds all values of a frame: document 01, "Frame values". ALEXA Mini's (`arri_mini`) and ALEXA 35's
-// (`alexa35`) metadata fill the same one, each what it has. What the two share is here: the record, and the kinds of
+// One record holds all values of a frame: docs/RULES.md, "Frame values". ALEXA Mini's (`arri_mini`) and ALEXA 35's
+// (`arri_alexa35`) metadata fill the same one, each what it has. What the two share is here: the record, and the kinds of
 // number that both have.
 ghost use mathlib.Core.Path.{_≡_};
 ghost use Rattle.frame_values.specs.Values.{floatOf, positive, singleThousandths, doubleThousandths, tiltRollOf};

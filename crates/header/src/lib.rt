@@ -1,6 +1,6 @@
-// The header part: docs/RULES.md, "Tables inside values": "Header part: label begins with the 13 bytes of `PARTITION_PREFIX`, byte 13 is 2, pack
-// whole and at least 40 bytes. The part after the pack, of (number at 32..40) + (number at 4..8) bytes, cut to the
-// buffer."
+// The header part: docs/RULES.md, "Tables inside values". The label begins with the 13 bytes of `PARTITION_PREFIX`, byte 13 is 2, the
+// pack is whole and has at least 40 bytes. The part is what follows the pack, of (number at 32..40) + (number at 4..8)
+// bytes, cut to the buffer.
 ghost use mathlib.Core.Path.{_≡_};
 ghost use Prim.Native.Nat.{_+_, _≤_, min};
 ghost use lib.ListN.{length};

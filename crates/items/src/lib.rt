@@ -1,7 +1,7 @@
-// Items one behind the other, each a key or tag, a length and a value, up to the first that isn't whole: document 01,
-// "A run (`klvs`) is 16 bytes of any kind, a length, a value, repeated to the first that isn't whole. It looks for no
-// key start." "Local items: tag 2, length 2 (BER where the set's label byte 5 is 13h), up to the first not whole." Both
-// are one step over a coding.
+// Items one behind the other, each a key or tag, a length and a value, up to the first that isn't whole: docs/RULES.md,
+// "The walk" and "Tables inside values". A run has keys of 16 bytes of any kind and BER lengths, and looks for no key start.
+// A set's items have tags and lengths of 2 bytes, or BER lengths where its label's byte 5 is 13h. All are one step over a
+// coding.
 ghost use mathlib.Core.Path.{_≡_};
 ghost use Rattle.items.specs.Items.{lengthIn, itemStep, runStep, codingOf};
 ghost use Rattle.items.specs.Told.{wholeTold, told, localTold};

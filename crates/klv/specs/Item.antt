@@ -1,4 +1,4 @@
--- A KLV by its length, and as a list has it: document 01, "The walk", rule 4.
+-- A KLV by its length, and as a list has it: docs/RULES.md, "The walk", rule 4.
 use Prim.Native.Nat.{ℕ, _+_}
 use mathlib.Core.List.{List}
 use lib.ListN.{take, drop}

@@ -1,4 +1,4 @@
-// Lengths: document 01, "Lengths and labels". First length byte below 80h: that number, 1 byte. 80h: length 0, 1 byte.
+// Lengths: docs/RULES.md, "Lengths and labels". First length byte below 80h: that number, 1 byte. 80h: length 0, 1 byte.
 // 81h to 88h: that many more bytes hold it. 89h and above: no length. Bytes missing: cut.
 ghost use mathlib.Core.Path.{_≡_};
 ghost use Rattle.lengths.specs.Length.{lengthAt, twoBytesAt};

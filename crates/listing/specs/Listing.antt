@@ -1,4 +1,4 @@
--- The listing's text: document 01, "Tally and listing".
+-- The listing's text: docs/RULES.md, "Tally and listing".
 use Prim.Native.Nat.{ℕ}
 use mathlib.Core.List.{List, [], _∷_, _++_}
 use mathlib.Core.Bool.{Bool, cond}

@@ -1,4 +1,4 @@
-// The listing's text: document 01, "Tally and listing". A line for each record of the finished walk, their count, a line for
+// The listing's text: docs/RULES.md, "Tally and listing". A line for each record of the finished walk, their count, a line for
 // each group of the tally, and how many are other.
 ghost use mathlib.Core.Path.{_≡_};
 ghost use lib.ListN.{length};

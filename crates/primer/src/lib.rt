@@ -1,5 +1,5 @@
-// The primer: docs/RULES.md, "Tables inside values": "Primer: bytes 4..8 must be 18, else it is empty; the count is ignored; entries of 18 from 8,
-// a partial last one dropped; the last of equal tags wins." Nothing is reserved, whatever the count or a length says: the
+// The primer: docs/RULES.md, "Tables inside values". Bytes 4..8 must be 18, else it is empty; the count is ignored; entries of 18 from 8,
+// a partial last one dropped; the last of equal tags wins. Nothing is reserved, whatever the count or a length says: the
 // search is of the lent bytes.
 ghost use mathlib.Core.Path.{_≡_};
 ghost use Prim.Native.Nat.{_+_, _≤_};

@@ -1,7 +1,5 @@
-// Signed reads: a number that was read as unsigned bits, as the signed number that a file means by them.
-//
-// Document 01: "angles at E0h and E4h are the low 16 bits, signed, over 10"; "tags 1501h and 1201h are signed". In `of_alexa35` the
-// whole numbers are signed, and in Canon's packs a value lies around 80h or 8000h.
+// Signed reads: bits that were read as an unsigned number, as the signed number that a file means by them. Angles, Canon's
+// positions and the ALEXA 35's whole numbers are signed; in Canon's packs a value counts from 80h or 8000h.
 ghost use mathlib.Core.Path.{_≡_};
 ghost use Rattle.signed.specs.Signed.{signedBits, around};
 

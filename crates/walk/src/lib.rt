@@ -1,4 +1,4 @@
-// The walk over the KLVs of a buffer: document 01, "The walk". A finished walk has a buffer and an end; the arriving walk
+// The walk over the KLVs of a buffer: docs/RULES.md, "The walk". A finished walk has a buffer and an end; the arriving walk
 // has the bytes that have arrived and a limit. Both are these rules at a place, and a search between places.
 ghost use mathlib.Core.Path.{_≡_};
 ghost use Prim.Native.Nat.{_≤_, max};
