@@ -8,7 +8,8 @@ use Rattle.klv.specs.Item.{Item, valueOf}
 use Rattle.items.specs.Items.{itemStep}
 use Rattle.items.proofs.From.{itemsFrom, no-items, one-more}
 use Rattle.arri_alexa35_values.specs.Said.{Said}
-use Rattle.arri_alexa35.specs.Items.{itemOf, inSet, inSets, after}
+use Rattle.items.specs.After.{after}
+use Rattle.arri_alexa35.specs.Items.{itemOf, inSet, inSets}
 
 -- a set's items from a place on, and those of an element's sets
 abbrev pub setFrom : List ℕ → ℕ → List Said

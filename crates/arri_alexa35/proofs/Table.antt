@@ -7,7 +7,8 @@ use Rattle.arri_alexa35_items.specs.Kinds.{floatIn, focalLengthIn, effectiveIn,
 use Rattle.arri_alexa35_values.specs.declared.Values.{Values}
 use Rattle.arri_alexa35_values.specs.Said.{Said, erases, keeps, doubleOr, wholeOr}
 use Rattle.arri_alexa35_values.specs.Values.{orientationOn, lensOn, encodersOn, captureOn, valuesOn, none, frameOf}
-use Rattle.arri_alexa35.specs.Items.{saidIn, after}
+use Rattle.items.specs.After.{after}
+use Rattle.arri_alexa35.specs.Items.{saidIn}
 use Rattle.arri_alexa35.specs.Alexa.{encodersOf, frameBy, alexaOf}
 
 -- field by field

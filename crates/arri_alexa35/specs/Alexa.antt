@@ -1,4 +1,4 @@
--- A frame of the ALEXA 35 by its items' numbers: document 01, "Frame values", and the table of `Frame::of_alexa35`.
+-- A frame of the ALEXA 35 by its items' numbers: docs/RULES.md, "Frame values", and the table of `Frame::of_alexa35`.
 use Prim.Native.Nat.{ℕ}
 use mathlib.Core.List.{List}
 use mathlib.Core.Bool.{true, false}
@@ -16,7 +16,8 @@ use Rattle.frame_values.specs.declared.TStop.the-variants as stop
 use Rattle.frame_values.specs.declared.Factors.the-variants as factors
 use Rattle.arri_alexa35_items.specs.Kinds.{floatIn, focalLengthIn, effectiveIn, tStopIn, distanceIn, rateIn, exposureIn, wholeIn, lowIn, tintIn, densityIn}
 use Rattle.arri_alexa35_values.specs.Said.{Said, erases, keeps, doubleOr, wholeOr, distanceOr}
-use Rattle.arri_alexa35.specs.Items.{saidIn, after}
+use Rattle.items.specs.After.{after}
+use Rattle.arri_alexa35.specs.Items.{saidIn}
 
 -- an item with the number sets the value; the last one stands, and erases the others where its own is not usable
 abbrev pub last : {A : Type 0} → A → (List ℕ → A) → ℕ → List Said → A

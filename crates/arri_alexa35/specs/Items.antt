@@ -1,4 +1,4 @@
--- The items of an ALEXA 35's frame metadata, in order: document 01, "Frame values".
+-- The items of an ALEXA 35's frame metadata, in order: docs/RULES.md, "Frame values".
 use Prim.Native.Nat.{ℕ}
 use mathlib.Core.List.{List, [], _∷_, _++_, map}
 use Rattle.klv.specs.Item.{Item, valueOf}
@@ -20,8 +20,3 @@ inSets element (i ∷ l) = inSet (valueOf element i) ++ inSets element l
 
 unfoldable pub saidIn : List ℕ → List Said
 saidIn element = inSets element (runOf element)
-
--- one after the other
-unfoldable pub after : {A : Type 0} → (A → Said → A) → A → List Said → A
-after on a [] = a
-after on a (i ∷ l) = after on (on a i) l

@@ -1,6 +1,6 @@
-// What an item of an ALEXA 35's frame metadata (RDD 55) says, by its number and its value: document 01, "`of_alexa35`
-// focal length likewise; its distances multiply in f64, then narrow once by the same rule"; "An empty whole number is 0;
-// index and balance keep the low 32 bits". A value of another width than its kind's is not usable.
+// What an item of an ALEXA 35's frame metadata (RDD 55) says, by its number and its value: docs/RULES.md, "Frame values". Distances
+// multiply in f64, then narrow once; an empty whole number is 0; index and balance keep the low 32 bits. A value of another
+// width than its kind's is not usable.
 ghost use mathlib.Core.Path.{_≡_};
 ghost use Rattle.arri_alexa35_items.specs.Kinds.{numberIn, floatIn, positiveIn, focalLengthIn, effectiveIn, tStopIn, metresOf, distanceOf, distanceIn, rationalIn, rateIn, exposureIn, wholeIn, lowIn, tintOf, densityOf};
 use frame_values::Distance;
@@ -10,21 +10,22 @@ use frame_values::TStop;
 use frame_values::Whole32;
 use frame_values::Whole64;
 use frame_values::positive;
-use frame_values::u32_at;
 use labels::begins;
+use parts::four_at;
 use parts::number;
 use parts::part;
+use parts::two_at;
 
 // Bytes 8 to 11 of ARRI's keys.
 const ARRI_ITEMS: [u8; 4] = *b"\x0e\x17\x01\x02";
 
-// The item's number: bytes 12 and 13 of its key, of another's key 0.
+// An item's number: what bytes 12 and 13 of its key hold, or 0 where the key is not one of ARRI's.
 pub fn number_in(key: &[u8]) -> u64
     ensures { λ r. ⌜ r ≡ numberIn (now (key .entry)) ⌝ }
 {
     if begins(&labels::KEY_START, key) {
         if begins(&ARRI_ITEMS, part(key, 8, 4)) {
-            return number(part(key, 12, 2));
+            return two_at(key, 12) as u64;
         }
     }
     0
@@ -35,7 +36,7 @@ pub fn float_in(v: &[u8]) -> Single
     ensures { λ r. ⌜ r ≡ floatIn (now (v .entry)) ⌝ }
 {
     if v.len() == 4 {
-        frame_values::float_of(u32_at(v, 0))
+        frame_values::float_of(four_at(v, 0))
     } else {
         Single::Nothing
     }
@@ -45,21 +46,21 @@ pub fn float_in(v: &[u8]) -> Single
 fn positive_in(v: &[u8]) -> bool
     ensures { λ r. ⌜ r ≡ positiveIn (now (v .entry)) ⌝ }
 {
-    (v.len() == 4) & positive(u32_at(v, 0))
+    (v.len() == 4) & positive(four_at(v, 0))
 }
 
 // The focal length in mm.
 pub fn focal_length_in(v: &[u8]) -> Single
     ensures { λ r. ⌜ r ≡ focalLengthIn (now (v .entry)) ⌝ }
 {
-    frame_values::single_thousandths(positive_in(v), u32_at(v, 0))
+    frame_values::single_thousandths(positive_in(v), four_at(v, 0))
 }
 
 // The effective focal length in mm.
 pub fn effective_in(v: &[u8]) -> Double
     ensures { λ r. ⌜ r ≡ effectiveIn (now (v .entry)) ⌝ }
 {
-    frame_values::double_thousandths(positive_in(v), u32_at(v, 0))
+    frame_values::double_thousandths(positive_in(v), four_at(v, 0))
 }
 
 // The T-stop's number on the linear scale.
@@ -67,7 +68,7 @@ pub fn t_stop_in(v: &[u8]) -> TStop
     ensures { λ r. ⌜ r ≡ tStopIn (now (v .entry)) ⌝ }
 {
     if positive_in(v) {
-        TStop::Linear(u32_at(v, 0))
+        TStop::Linear(four_at(v, 0))
     } else {
         TStop::Nothing
     }
@@ -103,7 +104,7 @@ pub fn distance_in(imperial: bool, v: &[u8]) -> Distance
     ensures { λ r. ⌜ r ≡ distanceIn imperial (now (v .entry)) ⌝ }
 {
     if v.len() == 4 {
-        distance_of(imperial, u32_at(v, 0))
+        distance_of(imperial, four_at(v, 0))
     } else {
         Distance::Nothing
     }
@@ -113,7 +114,7 @@ pub fn distance_in(imperial: bool, v: &[u8]) -> Distance
 fn rational_in(v: &[u8]) -> bool
     ensures { λ r. ⌜ r ≡ rationalIn (now (v .entry)) ⌝ }
 {
-    (v.len() == 8) & (0 < u32_at(v, 4))
+    (v.len() == 8) & (0 < four_at(v, 4))
 }
 
 // The rational as an f64.
@@ -121,7 +122,7 @@ pub fn rate_in(v: &[u8]) -> Double
     ensures { λ r. ⌜ r ≡ rateIn (now (v .entry)) ⌝ }
 {
     if rational_in(v) {
-        Double::Is(floats::ratio(u32_at(v, 0), u32_at(v, 4)))
+        Double::Is(floats::ratio(four_at(v, 0), four_at(v, 4)))
     } else {
         Double::Nothing
     }
@@ -132,7 +133,7 @@ pub fn exposure_in(v: &[u8]) -> Double
     ensures { λ r. ⌜ r ≡ exposureIn (now (v .entry)) ⌝ }
 {
     if rational_in(v) {
-        Double::Is(floats::milliseconds(u32_at(v, 0), u32_at(v, 4)))
+        Double::Is(floats::milliseconds(four_at(v, 0), four_at(v, 4)))
     } else {
         Double::Nothing
     }

@@ -1,4 +1,4 @@
--- An item of an ALEXA 35's frame metadata, and what it leaves of a value: document 01, "Frame values".
+-- An item of an ALEXA 35's frame metadata, and what it leaves of a value: docs/RULES.md, "Frame values".
 use Prim.Native.Nat.{ℕ}
 use mathlib.Core.List.{List}
 use mathlib.Core.Bool.{cond}

@@ -1,6 +1,6 @@
-// The values of an ALEXA 35's frame that are gathered item by item, set by set, and the frame that they make. Document 01:
-// "a later item without a usable value erases tilt, roll, both distances, T-stop, focal length, exposure time, exposure
-// index, white balance and ND; it doesn't erase tint, sensor rate, effective focal length or encoders."
+// The values of an ALEXA 35's frame, gathered item by item, and the frame that they make: docs/RULES.md, "Frame values". A later
+// item without a usable value erases tilt, roll, both distances, T-stop, focal length, exposure time, exposure index, white
+// balance and ND; it doesn't erase tint, sensor rate, effective focal length or encoders.
 ghost use mathlib.Core.Path.{_≡_};
 ghost use Rattle.arri_alexa35_values.specs.Said.{said, doubleOr, wholeOr, distanceOr};
 ghost use Rattle.arri_alexa35_values.specs.Values.{orientationOn, lensOn, encodersOn, captureOn, valuesOn, none, frameOf};

@@ -1,19 +1,20 @@
-// ARRI's 256 bytes in an ALEXA Mini's picture metadata element: document 01, "An element's items have a tag of 1 and a
-// length of 2. In each 88h item a run is read; in each of its `LENS_UNIT_SET` sets the first item 8200h (2-byte lengths)
-// gives its first 256 bytes, if it has them. The first such block is the answer. An item that isn't whole, met before
-// one, or none at all: nothing."
+// ARRI's 256 bytes in an ALEXA Mini's picture metadata element: docs/RULES.md, "Tables inside values". An element's items have a tag of
+// 1 and a length of 2. In each 88h item a run is read; in each of its `LENS_UNIT_SET` sets the first item 8200h (2-byte
+// lengths) gives its first 256 bytes, if it has them. The first such block is the answer. An item that isn't whole, met
+// before one, or none at all: nothing.
 ghost use mathlib.Core.Path.{_≡_};
 ghost use Prim.Native.Nat.{_≤_, _^_};
-ghost use lib.ListN.{length, take, drop};
-ghost use Rattle.parts.specs.Number.{numberOf};
+ghost use lib.ListN.{length};
 ghost use Rattle.klv.specs.Item.{item};
-ghost use Rattle.arri_block.specs.Block.{placedAt, firstBytes, inSet, inRunItem, inRun, inElementItem, blockOf, bytesOf, Ends};
+ghost use Rattle.arri_block.specs.Block.{told, placedAt, firstBytes, inSet, inRunItem, inRun, inElementItem, blockOf, bytesOf, Ends};
 use items::Coding;
-use items::Found;
-use items::Held;
 use items::Local;
+use items::LocalNext;
 use items::Run;
+use items::RunNext;
 use klv::Klv;
+use parts::one_at;
+use parts::two_at;
 
 // The lens unit set (RDD 18), whose item 8200h is the frame's dynamic metadata.
 const LENS_UNIT_SET: [u8; 16] =
@@ -26,18 +27,10 @@ pub enum Block {
     Nothing,
 }
 
-// The number that a tag of n bytes holds.
-fn tag(s: &[u8], at: usize, n: usize) -> u64
-    requires { ⌜ n ≤ 8 ⌝ }
-    ensures { λ r. ⌜ r ≡ numberOf (take n (drop at (now (s .entry)))) ⌝ }
-{
-    parts::number(parts::part(s, at, n))
-}
-
 // A block of the bytes that start at a place, by its place in the whole.
 fn placed_at(from: usize, b: Block) -> Block
-    requires { ⌜ Ends (placedAt from b) (2 ^ 64) ⌝ }
-    ensures { λ r. ⌜ r ≡ placedAt from b ⌝ }
+    requires { ⌜ Ends (placedAt from (told b)) (2 ^ 64) ⌝ }
+    ensures { λ r. ⌜ told r ≡ placedAt from (told b) ⌝ }
 {
     let Block::At(p) = b else {
         return Block::Nothing;
@@ -48,7 +41,7 @@ fn placed_at(from: usize, b: Block) -> Block
 
 // The first 256 bytes of an item's value, if it has them.
 fn first_bytes(k: Klv) -> Block
-    ensures { λ r. ⌜ r ≡ firstBytes k ⌝ }
+    ensures { λ r. ⌜ told r ≡ firstBytes k ⌝ }
 {
     if k.len < 256 {
         return Block::Nothing;
@@ -58,15 +51,15 @@ fn first_bytes(k: Klv) -> Block
 
 // The block that a set's first item 8200h gives.
 fn in_set(s: &[u8]) -> Block
-    ensures { λ r. ⌜ r ≡ inSet (now (s .entry)) ⌝ }
+    ensures { λ r. ⌜ told r ≡ inSet (now (s .entry)) ⌝ }
 {
     let mut at = 0;
     loop {
         let step = Local { at }.step(s, Coding::TWO_TWO);
-        let Held::Item(k, next) = step else {
+        let LocalNext::Item(k, next) = step else {
             return Block::Nothing;
         };
-        if tag(s, k.at, 2) == 0x8200 {
+        if two_at(s, k.at) == 0x8200 {
             return first_bytes(k);
         }
         at = next.at;
@@ -76,7 +69,7 @@ fn in_set(s: &[u8]) -> Block
 // The block that a run's item gives, where it is a lens unit set.
 fn in_run_item(s: &[u8], k: Klv) -> Block
     requires { ⌜ k .value ≤ length (now s) ⌝ }
-    ensures { λ r. ⌜ r ≡ inRunItem (now (s .entry)) (item 16 (now (s .entry)) k) ⌝ }
+    ensures { λ r. ⌜ told r ≡ inRunItem (now (s .entry)) (item 16 (now (s .entry)) k) ⌝ }
 {
     if labels::same_label(k.label(s), &LENS_UNIT_SET) {
         placed_at(k.value, in_set(k.bytes(s)))
@@ -87,12 +80,12 @@ fn in_run_item(s: &[u8], k: Klv) -> Block
 
 // The first block in a run's lens unit sets.
 fn in_run(s: &[u8]) -> Block
-    ensures { λ r. ⌜ r ≡ inRun (now (s .entry)) ⌝ }
+    ensures { λ r. ⌜ told r ≡ inRun (now (s .entry)) ⌝ }
 {
     let mut at = 0;
     loop {
         let step = Run { at }.step(s);
-        let Found::Item(k, next) = step else {
+        let RunNext::Item(k, next) = step else {
             return Block::Nothing;
         };
         let b = in_run_item(s, k);
@@ -106,9 +99,9 @@ fn in_run(s: &[u8]) -> Block
 // The block that an element's item gives, where it is an 88h one.
 fn in_element_item(s: &[u8], k: Klv) -> Block
     requires { ⌜ k .value ≤ length (now s) ⌝ }
-    ensures { λ r. ⌜ r ≡ inElementItem (now (s .entry)) (item 1 (now (s .entry)) k) ⌝ }
+    ensures { λ r. ⌜ told r ≡ inElementItem (now (s .entry)) (item 1 (now (s .entry)) k) ⌝ }
 {
-    if tag(s, k.at, 1) == 0x88 {
+    if one_at(s, k.at) == 0x88 {
         placed_at(k.value, in_run(k.bytes(s)))
     } else {
         Block::Nothing
@@ -117,12 +110,12 @@ fn in_element_item(s: &[u8], k: Klv) -> Block
 
 // ARRI's 256 bytes in an element.
 pub fn find(element: &[u8]) -> Block
-    ensures { λ r. ⌜ r ≡ blockOf (now (element .entry)) ⌝ }
+    ensures { λ r. ⌜ told r ≡ blockOf (now (element .entry)) ⌝ }
 {
     let mut at = 0;
     loop {
         let step = Local { at }.step(element, Coding::ONE_TWO);
-        let Held::Item(k, next) = step else {
+        let LocalNext::Item(k, next) = step else {
             return Block::Nothing;
         };
         let b = in_element_item(element, k);
@@ -135,7 +128,7 @@ pub fn find(element: &[u8]) -> Block
 
 // The block's bytes, a part of the element; none where there is no block.
 pub fn bytes(element: &[u8], block: Block) -> &[u8]
-    ensures { λ r. ⌜ now r ≡ bytesOf (now (element .entry)) block ⌝ }
+    ensures { λ r. ⌜ now r ≡ bytesOf (now (element .entry)) (told block) ⌝ }
 {
     match block {
         Block::At(p) => parts::part(element, p, 256),

@@ -1,14 +1,13 @@
--- The 256 bytes of an ALEXA Mini's frame: document 01, "Frame values", and the table of offsets of `Frame::of_dynamic`.
+-- The 256 bytes of an ALEXA Mini's frame: docs/RULES.md, "Frame values", and the table of offsets of `Frame::of_dynamic`.
 use Prim.Native.Nat.{ℕ, _/_}
 use mathlib.Core.List.{List}
 use mathlib.Core.Bool.{Bool, _&&_, _||_, not, cond}
-use lib.ListN.{take, drop}
 use lib.Dec.{ltb, leb, eqb}
 use lib.IntN.{pos}
 use lib.Ieee.{binary32, binary64, ofInt}
-use Rattle.parts.specs.Number.{numberOf}
+use Rattle.parts.specs.Number.{twoAt, fourAt}
 use Rattle.floats.specs.Quotients.{thousandthsF32, lowTenths, overThousand}
-use Rattle.frame_values.specs.Values.{u32At, floatOf, positive, singleThousandths, doubleThousandths, tiltRollOf}
+use Rattle.frame_values.specs.Values.{floatOf, positive, singleThousandths, doubleThousandths, tiltRollOf}
 use Rattle.frame_values.specs.declared.Single.{Single}
 use Rattle.frame_values.specs.declared.Whole64.{Whole64}
 use Rattle.frame_values.specs.declared.Distance.{Distance}
@@ -72,7 +71,7 @@ factorsOf single.Nothing blue = factors.Nothing
 
 -- an encoder's u16, unset where all bits are set
 unfoldable pub encoderAt : List ℕ → ℕ → Whole64
-encoderAt d at = cond (eqb (numberOf (take 2 (drop at d))) 0xffff) whole64.Nothing (whole64.Is (numberOf (take 2 (drop at d))))
+encoderAt d at = cond (eqb (twoAt d at) 0xffff) whole64.Nothing (whole64.Is (twoAt d at))
 
 unfoldable pub encodersOf : List ℕ → Encoders
 encodersOf d = record {
@@ -86,21 +85,21 @@ encodersOf d = record {
 
 -- the lens has data: a focal length or a T-stop
 abbrev pub lensOf : List ℕ → Bool
-lensOf d = isKnown (u32At d 0xa8) || positive (u32At d 0xac)
+lensOf d = isKnown (fourAt d 0xa8) || positive (fourAt d 0xac)
 
 unfoldable pub dynamicOf : List ℕ → Frame
 dynamicOf d = record {
-  «focal_length» = singleThousandths (isKnown (u32At d 0xa8)) (u32At d 0xa8);
-  «focus_distance» = distanceOf (lensOf d) (u32At d 0xa4);
-  «t_stop» = tStopOf (singleThousandths (positive (u32At d 0xac)) (u32At d 0xac));
-  «exposure_time» = doubleThousandths (isSet (u32At d 0x50)) (u32At d 0x50);
-  «shutter_angle» = shutterOf (versionOf (u32At d 0xfc)) (u32At d 0x54);
-  «tilt_roll» = tiltRollOf (angleOf (u32At d 0xe0)) (angleOf (u32At d 0xe4));
+  «focal_length» = singleThousandths (isKnown (fourAt d 0xa8)) (fourAt d 0xa8);
+  «focus_distance» = distanceOf (lensOf d) (fourAt d 0xa4);
+  «t_stop» = tStopOf (singleThousandths (positive (fourAt d 0xac)) (fourAt d 0xac));
+  «exposure_time» = doubleThousandths (isSet (fourAt d 0x50)) (fourAt d 0x50);
+  «shutter_angle» = shutterOf (versionOf (fourAt d 0xfc)) (fourAt d 0x54);
+  «tilt_roll» = tiltRollOf (angleOf (fourAt d 0xe0)) (angleOf (fourAt d 0xe4));
   «exposure_index» = whole32.Nothing;
   «white_balance» = whole32.Nothing;
   «nd_density» = double.Nothing;
-  «effective_focal_length» = doubleThousandths (isKnown (u32At d 0xc0)) (u32At d 0xc0);
-  «white_balance_factors» = factorsOf (floatOf (u32At d 0xe8)) (floatOf (u32At d 0xec));
+  «effective_focal_length» = doubleThousandths (isKnown (fourAt d 0xc0)) (fourAt d 0xc0);
+  «white_balance_factors» = factorsOf (floatOf (fourAt d 0xe8)) (floatOf (fourAt d 0xec));
   encoders = encodersOf d;
   tint = double.Nothing;
   «sensor_rate» = double.Nothing;

@@ -1,7 +1,6 @@
-// The dynamic metadata of an ALEXA Mini's or Mini LF's frame, 256 bytes big-endian, as a frame's values: document 01,
-// "Fields, offsets, sentinels and codes are those of `Frame::of_dynamic`"; "a distance is nothing, infinity or a figure
-// in metres"; "`of_dynamic` turns a u32 into an f32 to the nearest, ties to even, before it divides in f32"; "angles at
-// E0h and E4h are the low 16 bits, signed, over 10". Exposure time and effective focal length are divided in f64.
+// The dynamic metadata of an ALEXA Mini's or Mini LF's frame, 256 bytes big-endian, as a frame's values: docs/RULES.md,
+// "Frame values". Fields, offsets, sentinels and codes are those of `Frame::of_dynamic`. Thousandths are rounded to an f32
+// and then divided in f32; exposure time and effective focal length are divided in f64.
 ghost use mathlib.Core.Path.{_≡_};
 ghost use Rattle.arri_mini.specs.Dynamic.{isSet, isKnown, versionOf, singleOverThousand, shutterOf, angleOf, tStopOf, distanceOf, factorsOf, encoderAt, encodersOf, dynamicOf};
 use frame_values::Colours;
@@ -18,7 +17,7 @@ use frame_values::double_thousandths;
 use frame_values::float_of;
 use frame_values::positive;
 use frame_values::single_thousandths;
-use frame_values::u32_at;
+use parts::four_at;
 
 // A field without a value has all bits set.
 const UNSET: u32 = 0xffff_ffff;
@@ -127,7 +126,7 @@ fn factors_of(red: Single, blue: Single) -> Factors
 fn encoder_at(d: &[u8], at: usize) -> Whole64
     ensures { λ r. ⌜ r ≡ encoderAt (now (d .entry)) at ⌝ }
 {
-    let v = parts::number(parts::part(d, at, 2));
+    let v = parts::two_at(d, at) as u64;
     if v == 0xffff {
         return Whole64::Nothing;
     }
@@ -152,24 +151,27 @@ fn encoders_of(d: &[u8]) -> Encoders
 pub fn of_dynamic(d: &[u8]) -> Frame
     ensures { λ r. ⌜ r ≡ dynamicOf (now (d .entry)) ⌝ }
 {
-    let focal = u32_at(d, 0xa8);
-    let stop = u32_at(d, 0xac);
+    let focal = four_at(d, 0xa8);
+    let stop = four_at(d, 0xac);
     let has_focal = is_known(focal);
     let has_stop = positive(stop);
-    let exposure = u32_at(d, 0x50);
-    let effective = u32_at(d, 0xc0);
+    let exposure = four_at(d, 0x50);
+    let effective = four_at(d, 0xc0);
     Frame {
         focal_length: single_thousandths(has_focal, focal),
-        focus_distance: distance_of(has_focal | has_stop, u32_at(d, 0xa4)),
+        focus_distance: distance_of(has_focal | has_stop, four_at(d, 0xa4)),
         t_stop: t_stop_of(single_thousandths(has_stop, stop)),
         exposure_time: double_thousandths(is_set(exposure), exposure),
-        shutter_angle: shutter_of(version_of(u32_at(d, 0xfc)), u32_at(d, 0x54)),
-        tilt_roll: frame_values::tilt_roll_of(angle_of(u32_at(d, 0xe0)), angle_of(u32_at(d, 0xe4))),
+        shutter_angle: shutter_of(version_of(four_at(d, 0xfc)), four_at(d, 0x54)),
+        tilt_roll: frame_values::tilt_roll_of(
+            angle_of(four_at(d, 0xe0)),
+            angle_of(four_at(d, 0xe4)),
+        ),
         exposure_index: Whole32::Nothing,
         white_balance: Whole32::Nothing,
         nd_density: Double::Nothing,
         effective_focal_length: double_thousandths(is_known(effective), effective),
-        white_balance_factors: factors_of(float_of(u32_at(d, 0xe8)), float_of(u32_at(d, 0xec))),
+        white_balance_factors: factors_of(float_of(four_at(d, 0xe8)), float_of(four_at(d, 0xec))),
         encoders: encoders_of(d),
         tint: Double::Nothing,
         sensor_rate: Double::Nothing,

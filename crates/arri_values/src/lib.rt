@@ -1,4 +1,4 @@
-// The values of an ARRI frame: document 01, "Frame walks" and "Frame values". The element of an ALEXA 35 is read whole,
+// The values of an ARRI frame: docs/RULES.md, "Frame walks" and "Frame values". The element of an ALEXA 35 is read whole,
 // that of an ALEXA Mini for its 256 bytes; a frame that is over-long, or has no such bytes, has no values.
 ghost use mathlib.Core.Path.{_≡_};
 ghost use Rattle.arri_values.specs.Values.{miniOf, elementOf, valuesOf};
@@ -17,10 +17,10 @@ fn mini(element: &[u8]) -> Values
     ensures { λ r. ⌜ r ≡ miniOf (now (element .entry)) ⌝ }
 {
     let b = arri_block::find(element);
-    let Block::At(at) = b else {
+    let Block::At(_) = b else {
         return Values::Nothing;
     };
-    Values::Are(arri_mini::of_dynamic(parts::part(element, at, 256)))
+    Values::Are(arri_mini::of_dynamic(arri_block::bytes(element, b)))
 }
 
 // The values in an element, by its label.

@@ -1,4 +1,4 @@
--- The fields of a Private Camera Metadata by its packs: document 01, "Frame values".
+-- The fields of a Private Camera Metadata by its packs: docs/RULES.md, "Frame values".
 use Prim.Native.Nat.{ℕ, _/_, _%_}
 use mathlib.Core.Bool.{cond}
 use lib.Dec.{eqb}

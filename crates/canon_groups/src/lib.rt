@@ -1,5 +1,5 @@
-// The fields of Canon's Private Camera Metadata, in six groups, and what a pack makes of each: document 01, "In Canon packs a
-// value of nothing erases nothing." A field has its pack's id; pack 0 is none's.
+// The fields of Canon's Private Camera Metadata, in six groups, and what a pack makes of each: docs/RULES.md, "Frame
+// values". A pack is the fields' that have its id, and pack 0 is none's; a value of nothing erases nothing.
 ghost use mathlib.Core.Path.{_≡_};
 ghost use Rattle.canon_groups.specs.Groups.{after, lensAfter, modesAfter, shutterAfter, balanceAfter, gainAfter, rangesAfter, noLens, noModes, noShutter, noBalance, noGain, noRanges};
 use canon_values::Value;
@@ -15,11 +15,11 @@ use canon_values::offset;
 use canon_values::put;
 use canon_values::quotient;
 use canon_values::sensitivity;
-use canon_values::short;
 use canon_values::tenths;
 use canon_values::two_bits;
+use canon_values::u16_of;
+use canon_values::u32_of;
 use canon_values::whole;
-use canon_values::wide;
 use canon_values::zoom;
 
 // A pack: its id, its four bytes, and the numbers of the first, middle and last two and of all.
@@ -110,7 +110,7 @@ pub fn lens_after(p: Pack, g: Lens) -> Lens
     let set_distortion = g.set_distortion;
     let lens_value = g.lens_value;
     Lens {
-        focal_length: after(p, 1, focal_length, tenths(wide(p.first), 0xffff)),
+        focal_length: after(p, 1, focal_length, tenths(u32_of(p.first), 0xffff)),
         electric_zoom: after(p, 1, electric_zoom, zoom(p.last)),
         f_number: after(p, 5, f_number, aperture(p.first, p.last)),
         t_number: after(p, 10, t_number, aperture(p.first, p.last)),
@@ -151,7 +151,7 @@ pub fn shutter_after(p: Pack, g: Shutter) -> Shutter
     Shutter {
         speed: after(p, 3, speed, quotient(p.first, p.last, 0xffff)),
         mode: after(p, 4, mode, two_bits(p.b0 / 64)),
-        value: after(p, 4, value, quotient(p.middle, short(p.b3), 0xff)),
+        value: after(p, 4, value, quotient(p.middle, u16_of(p.b3), 0xff)),
     }
 }
 
@@ -168,7 +168,7 @@ pub fn balance_after(p: Pack, g: Balance) -> Balance
         mode: after(p, 6, mode, balance_mode(p.b0 / 32)),
         preset: after(p, 6, preset, balance_preset(p.b0 % 32)),
         accurate: after(p, 6, accurate, Value::Code(p.b1 / 128)),
-        temperature: after(p, 6, temperature, whole(wide(p.middle % 32768), 32767)),
+        temperature: after(p, 6, temperature, whole(u32_of(p.middle % 32768), 32767)),
         isotemperature: after(p, 6, isotemperature, line_index(p.b3)),
     }
 }
@@ -183,12 +183,12 @@ pub fn gain_after(p: Pack, g: Gain) -> Gain
     let iso_speed = g.iso_speed;
     let base_iso = g.base_iso;
     let mode = after(p, 7, mode, Value::Code(p.b0 / 128));
-    let level = after(p, 7, level, decibels(short(p.b0 % 128), 127, p.b2 / 16));
-    let nd_filter = after(p, 7, nd_filter, whole(wide(short(p.b1)), 255));
+    let level = after(p, 7, level, decibels(u16_of(p.b0 % 128), 127, p.b2 / 16));
+    let nd_filter = after(p, 7, nd_filter, whole(u32_of(u16_of(p.b1)), 255));
     Gain {
         mode: after(p, 11, mode, Value::Code(p.b0 / 128)),
         level: after(p, 11, level, decibels(p.first % 4096, 4095, p.b0 / 16 % 8)),
-        nd_filter: after(p, 11, nd_filter, whole(wide(p.last), 0xffff)),
+        nd_filter: after(p, 11, nd_filter, whole(u32_of(p.last), 0xffff)),
         iso_speed: after(p, 9, iso_speed, whole(p.whole, 0xffff_ffff)),
         base_iso: after(p, 19, base_iso, whole(p.whole, 0xffff_ffff)),
     }

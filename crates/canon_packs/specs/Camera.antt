@@ -1,8 +1,8 @@
--- A Private Camera Metadata: document 01, "Tables inside values", Canon.
+-- A Private Camera Metadata: docs/RULES.md, "Tables inside values", Canon.
 use Prim.Native.Nat.{ℕ, zero, suc, _+_, _-_, _*_, _/_, min}
 use mathlib.Core.List.{List}
-use lib.ListN.{length, getD, take, drop}
-use Rattle.parts.specs.Number.{numberOf}
+use lib.ListN.{length, getD}
+use Rattle.parts.specs.Number.{twoAt, fourAt}
 use Rattle.canon_groups.specs.declared.Pack.{Pack}
 use Rattle.canon_groups.specs.Groups.{lensAfter, modesAfter, shutterAfter, balanceAfter, gainAfter, rangesAfter, noLens, noModes, noShutter, noBalance, noGain, noRanges}
 use Rattle.canon_packs.specs.declared.Camera.{Camera}
@@ -15,10 +15,10 @@ packAt s at = record {
   b1 = getD s (at + 2) 0;
   b2 = getD s (at + 3) 0;
   b3 = getD s (at + 4) 0;
-  first = numberOf (take 2 (drop (at + 1) s));
-  middle = numberOf (take 2 (drop (at + 2) s));
-  last = numberOf (take 2 (drop (at + 3) s));
-  whole = numberOf (take 4 (drop (at + 1) s));
+  first = twoAt s (at + 1);
+  middle = twoAt s (at + 2);
+  last = twoAt s (at + 3);
+  whole = fourAt s (at + 1);
 }
 
 -- the camera after a pack

@@ -1,5 +1,5 @@
-// Canon's Private Camera Metadata: document 01, "Its first byte is a count; packs of 5 follow, at most that many, a partial one
-// dropped."
+// Canon's Private Camera Metadata: docs/RULES.md, "Tables inside values". Its first byte is a count; packs of 5 follow, at most that
+// many, a partial one dropped.
 ghost use mathlib.Core.Path.{_≡_};
 ghost use Prim.Native.Nat.{_+_, _≤_};
 ghost use lib.ListN.{length};

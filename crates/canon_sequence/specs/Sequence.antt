@@ -1,13 +1,14 @@
--- Sequence info: document 01, "Tables inside values", Canon.
+-- Sequence info: docs/RULES.md, "Tables inside values", Canon.
 use Prim.Native.Nat.{ℕ}
-use mathlib.Core.List.{List, [], _∷_}
+use mathlib.Core.List.{List}
 use mathlib.Core.Bool.{false, cond, _&&_}
 use lib.Dec.{eqb}
 use Rattle.signed.specs.Signed.{signedBits}
 use Rattle.parts.specs.Number.{numberAt}
 use Rattle.klv.specs.declared.Klv.{Klv}
-use Rattle.klv.specs.Item.{Item}
+use Rattle.klv.specs.Item.{Item, tagOf}
 use Rattle.items.specs.Items.{itemsOf}
+use Rattle.items.specs.After.{after}
 use Rattle.canon_sequence.specs.declared.Position.{Position}
 use Rattle.canon_sequence.specs.declared.Position.the-variants as position
 use Rattle.canon_sequence.specs.declared.Identifier.{Identifier}
@@ -35,11 +36,10 @@ fieldsAfter s tag k q = record {
 abbrev pub empty : Sequence
 empty = record { «instance_uid» = identifier.Nothing; «package_uid» = identifier.Nothing; «start_timecode» = position.Nothing; «start_position» = position.Nothing }
 
--- after items: the last one stands
-unfoldable pub fieldsOf : List ℕ → Sequence → List Item → Sequence
-fieldsOf s q [] = q
-fieldsOf s q (i ∷ more) = fieldsOf s (fieldsAfter s (numberAt s (i .klv .at) 2) (i .klv) q) more
+-- after an item of the set
+abbrev pub fieldsOn : List ℕ → Sequence → Item → Sequence
+fieldsOn s q i = fieldsAfter s (tagOf i) (i .klv) q
 
--- items with 2 and 2
+-- items with 2 and 2, one after the other: the last one stands
 unfoldable pub sequenceOf : List ℕ → Sequence
-sequenceOf s = fieldsOf s empty (itemsOf 2 false s)
+sequenceOf s = after (fieldsOn s) empty (itemsOf 2 false s)

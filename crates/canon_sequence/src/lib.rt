@@ -1,14 +1,15 @@
-// Canon's sequence info: document 01, "items with 2 and 2; tags 1501h and 1201h are signed and need exactly 8 bytes, 3C0Ah and
-// 4401h are the item's bytes; the last one stands."
+// Canon's sequence info: docs/RULES.md, "Tables inside values". Items with 2 and 2; tags 1501h and 1201h are signed and need exactly 8
+// bytes, 3C0Ah and 4401h are the item's bytes; the last one stands.
 ghost use mathlib.Core.Path.{_≡_};
 ghost use Prim.Native.Nat.{_+_, _≤_};
 ghost use lib.ListN.{length};
 ghost use Rattle.canon_sequence.specs.Sequence.{positionAfter, identifierAfter, fieldsAfter, empty, sequenceOf};
 use items::Coding;
-use items::Held;
 use items::Local;
+use items::LocalNext;
 use klv::Klv;
 use parts::number_at;
+use parts::two_at;
 
 // A place in the clip.
 pub enum Position {
@@ -31,7 +32,7 @@ pub struct Sequence {
 }
 
 // A position after an item with a tag.
-fn position_after(s: &[u8], tag: u64, k: Klv, field: u64, old: Position) -> Position
+fn position_after(s: &[u8], tag: u16, k: Klv, field: u16, old: Position) -> Position
     requires { ⌜ k .value + k .len ≤ length (now s) ⌝ }
     ensures { λ r. ⌜ r ≡ positionAfter (now (s .entry)) tag k field old ⌝ }
 {
@@ -46,7 +47,7 @@ fn position_after(s: &[u8], tag: u64, k: Klv, field: u64, old: Position) -> Posi
 }
 
 // An identifier after an item with a tag.
-fn identifier_after(tag: u64, k: Klv, field: u64, old: Identifier) -> Identifier
+fn identifier_after(tag: u16, k: Klv, field: u16, old: Identifier) -> Identifier
     ensures { λ r. ⌜ r ≡ identifierAfter tag k field old ⌝ }
 {
     if tag == field {
@@ -56,7 +57,7 @@ fn identifier_after(tag: u64, k: Klv, field: u64, old: Identifier) -> Identifier
 }
 
 // The fields after an item with a tag.
-fn fields_after(s: &[u8], tag: u64, k: Klv, q: Sequence) -> Sequence
+fn fields_after(s: &[u8], tag: u16, k: Klv, q: Sequence) -> Sequence
     requires { ⌜ k .value + k .len ≤ length (now s) ⌝ }
     ensures { λ r. ⌜ r ≡ fieldsAfter (now (s .entry)) tag k q ⌝ }
 {
@@ -93,10 +94,10 @@ pub fn read(s: &[u8]) -> Sequence
     loop {
         let c = Local { at };
         let t = c.step(s, Coding::TWO_TWO);
-        let Held::Item(k, next) = t else {
+        let LocalNext::Item(k, next) = t else {
             return q;
         };
-        q = fields_after(s, number_at(s, at, 2), k, q);
+        q = fields_after(s, two_at(s, k.at), k, q);
         at = next.at;
     }
 }

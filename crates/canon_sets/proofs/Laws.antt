@@ -7,11 +7,11 @@ use mathlib.Core.Logic.{by-cases}
 use native.Mathlib.Omega.{arith}
 use native.Mathlib.Decide.{decLt}
 use borrow.Author.Tests.{eq-eqb, ne-eqb}
-use lib.ListN.{length, getD, take, length-take}
+use lib.ListN.{length, take, length-take}
 use Rattle.steps.specs.Told.{found, nothing}
 use Rattle.steps.specs.Listed.{before, listFrom}
 use Rattle.labels.specs.Label.{sameLabel}
-use Rattle.klv.specs.Item.{Item, past}
+use Rattle.klv.specs.Item.{Item, tagOf, past}
 use Rattle.items.specs.Items.{runStep, itemStep}
 use Rattle.items.proofs.Laws.{Fit, item-end, item-fits}
 use Rattle.items.proofs.Lists.{item-listed}
@@ -59,11 +59,11 @@ module _ (s : List ℕ) (from end : ℕ) (r : inRun s from end ≡ []) where
     fits : Fit 1 s end i q
     fits = item-fits 1 false s end i q e
 
-    pub item-run : getD s (i .klv .at) 0 ≡ 0x88 → valuesFrom s from end ≡ valuesFrom s (i .klv .value) q
+    pub item-run : tagOf i ≡ 0x88 → valuesFrom s from end ≡ valuesFrom s (i .klv .value) q
     unfolding valuesFrom itemsFrom before inItems inItem
     item-run m = rw (r, items-listed, e, eq-eqb _ _ m, fits .goes-on)
 
-    pub item-other : (getD s (i .klv .at) 0 ≡ 0x88 → ⊥) → valuesFrom s from end ≡ valuesFrom s q q
+    pub item-other : (tagOf i ≡ 0x88 → ⊥) → valuesFrom s from end ≡ valuesFrom s q q
     unfolding valuesFrom itemsFrom before inItems inItem
     item-other m = rw (r, items-listed, e, ne-eqb _ _ m, run-none s q q (omega arith))
 

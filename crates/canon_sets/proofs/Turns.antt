@@ -5,13 +5,13 @@ use mathlib.Core.List.{List, [], _∷_}
 use mathlib.Core.Bool.{Bool, true, false}
 use native.Mathlib.Omega.{arith}
 use borrow.Author.Tests.{eqb-true, eqb-false}
-use lib.ListN.{length, getD, take}
+use lib.ListN.{length, take}
 use lib.Dec.{eqb}
 use Rattle.steps.specs.Told.{Told, found, nothing, refused}
 use Rattle.steps.specs.Listed.{before}
 use Rattle.labels.specs.Label.{sameLabel}
 use Rattle.klv.specs.declared.Klv.{Klv}
-use Rattle.klv.specs.Item.{Item, past}
+use Rattle.klv.specs.Item.{Item, tagOf, past}
 use Rattle.items.specs.Items.{runStep, itemStep}
 use Rattle.items.proofs.Laws.{item-fits}
 use Rattle.items.proofs.Lists.{item-listed}
@@ -28,7 +28,7 @@ pub data View (s : List ℕ) (from end : ℕ) : Type 0 where
   v-over : valuesFrom s from end ≡ [] → View s from end
 
 module _ (s : List ℕ) (from end : ℕ) (h : from ≤ end) where
-  by-tag : (r : inRun s from end ≡ []) (i : Item) (q : ℕ) → itemStep 1 false s end ≡ found i q → (b : Bool) → eqb (getD s (i .klv .at) 0) 0x88 ≡ b → View s from end
+  by-tag : (r : inRun s from end ≡ []) (i : Item) (q : ℕ) → itemStep 1 false s end ≡ found i q → (b : Bool) → eqb (tagOf i) 0x88 ≡ b → View s from end
   by-tag r i q e true m =
       v-on (i .klv .value) q (item-run s from end r i q e (eqb-true _ _ m)) (run-in s from end r i q e h)
   by-tag r i q e false m =
@@ -36,7 +36,7 @@ module _ (s : List ℕ) (from end : ℕ) (h : from ≤ end) where
 
   by-item : inRun s from end ≡ [] → (t : Told Item) → itemStep 1 false s end ≡ t → View s from end
   unfolding valuesFrom itemsFrom before inItems
-  by-item r (found i q) e = by-tag r i q e (eqb (getD s (i .klv .at) 0) 0x88) refl
+  by-item r (found i q) e = by-tag r i q e (eqb (tagOf i) 0x88) refl
   by-item r (nothing q) e = v-over (items-over s from end r q e)
   by-item r (refused n q) e = v-over (rw (r, item-listed 1 false s end, e))
 

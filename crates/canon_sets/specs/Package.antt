@@ -1,13 +1,13 @@
--- A package set's Private Camera Metadata: document 01, "Tables inside values", Canon.
+-- A package set's Private Camera Metadata: docs/RULES.md, "Tables inside values", Canon.
 use Prim.Native.Nat.{ℕ}
 use mathlib.Core.List.{List, [], _∷_, _++_}
 use mathlib.Core.Bool.{false, cond}
-use lib.ListN.{length, getD, take}
+use lib.ListN.{length, take}
 use lib.Dec.{eqb}
 use Rattle.steps.specs.Listed.{listFrom}
 use Rattle.labels.specs.Label.{sameLabel}
 use Rattle.klv.specs.declared.Klv.{Klv}
-use Rattle.klv.specs.Item.{Item, past}
+use Rattle.klv.specs.Item.{Item, tagOf, past}
 use Rattle.items.specs.Items.{runStep, itemStep}
 
 -- PRIVATE_CAMERA_METADATA
@@ -34,7 +34,7 @@ inRun s from end = labelled end (listFrom (runStep (take end s)) (length (take e
 
 -- an 88h item's value is a run
 unfoldable pub inItem : List ℕ → Item → List Entry
-inItem s i = cond (eqb (getD s (i .klv .at) 0) 0x88) (inRun s (i .klv .value) (past (i .klv))) []
+inItem s i = cond (eqb (tagOf i) 0x88) (inRun s (i .klv .value) (past (i .klv))) []
 
 unfoldable pub inItems : List ℕ → List Item → List Entry
 inItems s [] = []

@@ -1,4 +1,4 @@
--- What this crate's answers say, each case by document 01's number and values; from is where the cursor stood.
+-- What this crate's answers say, each case by the number and values of docs/RULES.md; from is where the cursor stood.
 use Prim.Native.Nat.{ℕ, _-_, _≤_, _<_}
 use mathlib.Core.Path.{_≡_}
 use mathlib.Core.List.{List, [], _∷_}

@@ -1,15 +1,15 @@
-// Canon's package sets: document 01, "a package set's items have a tag of 1 and a length of 2, up to the first not whole; each
-// `PRIVATE_CAMERA_METADATA` value in an 88h item's run is answered in turn."
+// Canon's package sets: docs/RULES.md, "Tables inside values". A package set's items have a tag of 1 and a length of 2, up to the first
+// not whole; each `PRIVATE_CAMERA_METADATA` value in an 88h item's run is answered in turn.
 ghost use mathlib.Core.Path.{_≡_};
 ghost use Prim.Native.Nat.{_≤_};
 ghost use mathlib.Core.List.{[]};
 ghost use Rattle.canon_sets.specs.Package.{valuesFrom, inRun};
 ghost use Rattle.canon_sets.specs.Told.{told, firstOf, Turned};
 use items::Coding;
-use items::Found;
-use items::Held;
 use items::Local;
+use items::LocalNext;
 use items::Run;
+use items::RunNext;
 use klv::Klv;
 
 // The packs of a camera.
@@ -33,10 +33,10 @@ fn next_item(s: &[u8], from: usize, end: usize) -> Turn
 {
     let c = Local { at: end };
     let t = c.step(s, Coding::ONE_TWO);
-    let Held::Item(k, next) = t else {
+    let LocalNext::Item(k, next) = t else {
         return Turn::Over;
     };
-    if s[end] == 0x88 {
+    if parts::one_at(s, k.at) == 0x88 {
         return Turn::On(k.value, next.at);
     }
     Turn::On(next.at, next.at)
@@ -50,7 +50,7 @@ fn turn_at(s: &[u8], from: usize, end: usize) -> Turn
     let run = parts::part(s, 0, end);
     let c = Run { at: from };
     let t = c.step(run);
-    let Found::Item(k, next) = t else {
+    let RunNext::Item(k, next) = t else {
         return next_item(s, from, end);
     };
     if labels::same_label(k.label(run), &PRIVATE_CAMERA_METADATA) {

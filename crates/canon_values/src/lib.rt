@@ -30,13 +30,13 @@ pub fn tenths(v: u32, none: u32) -> Value
 }
 
 // A number of two bytes as one of four, and a byte as one of two.
-pub fn wide(v: u16) -> u32
+pub fn u32_of(v: u16) -> u32
     ensures { λ r. ⌜ r ≡ v ⌝ }
 {
     v as u32
 }
 
-pub fn short(v: u8) -> u16
+pub fn u16_of(v: u8) -> u16
     ensures { λ r. ⌜ r ≡ v ⌝ }
 {
     v as u16
@@ -49,7 +49,7 @@ pub fn zoom(v: u16) -> Value
     if v == 0 {
         return Value::Off;
     }
-    tenths(wide(v), 0xffff)
+    tenths(u32_of(v), 0xffff)
 }
 
 // Whether a number is 0 or the one that says that there is none.
@@ -72,7 +72,7 @@ pub fn quotient(a: u16, b: u16, none: u16) -> Value
     if missing(b, none) {
         return Value::Nothing;
     }
-    Value::Float(floats::ratio(wide(a), wide(b)))
+    Value::Float(floats::ratio(u32_of(a), u32_of(b)))
 }
 
 // An aperture: closed is looked at first.

@@ -7,16 +7,12 @@ use native.Mathlib.Omega.{arith}
 use borrow.Author.Tests.{le-leb, lt-leb, leb-true, eq-eqb, ne-eqb}
 use lib.ListN.{length}
 use lib.Dec.{leb, eqb}
-use Rattle.steps.specs.Told.{found, nothing}
-use Rattle.steps.specs.Listed.{before, onward, listFrom, endFrom}
-use Rattle.steps.proofs.Laws.{ended}
-use Rattle.parts.specs.Number.{numberAt}
+use Rattle.steps.specs.Told.{nothing}
 use Rattle.klv.specs.declared.Klv.{Klv}
-use Rattle.klv.specs.Item.{Item}
-use Rattle.items.specs.Items.{itemStep, itemsOf}
-use Rattle.items.proofs.Lists.{item-moves, item-listed}
+use Rattle.items.specs.Items.{itemStep}
+use Rattle.items.proofs.Going.{Going, going-end}
 use Rattle.descriptor.specs.declared.Descriptor.{Descriptor}
-use Rattle.descriptor.specs.Fields.{holds, fieldsAfter, empty, fieldsOf}
+use Rattle.descriptor.specs.Fields.{holds, fieldsOn, empty}
 use Rattle.descriptor.specs.Descriptor.{done, refused, itemsEnd, descriptorTold}
 
 module _ (tag : ℕ) (k : Klv) (field n : ℕ) where
@@ -44,38 +40,12 @@ module _ (tag : ℕ) (k : Klv) (field n : ℕ) where
       go true false x c y e = let z : _≡_ {A = ℕ} 0 1 = cc in absurd (omega arith)
       go false b x c y e = let z : _≡_ {A = ℕ} 0 1 = cc in absurd (omega arith)
 
--- The loop at p: the items from p on give what all of them give
-pub record Going (s : List ℕ) (d : Descriptor) (p : ℕ) : Type 0 where
-  pub within : p ≤ length s
-  pub fields : fieldsOf s d (listFrom (itemStep 2 false s) (length s) p) ≡ fieldsOf s empty (itemsOf 2 false s)
-  pub end : endFrom (itemStep 2 false s) (length s) p ≡ itemsEnd s
+-- What the loop returns, where no whole item is left
+module _ (s : List ℕ) (d : Descriptor) (p : ℕ) (g : Going 2 false s (fieldsOn s) empty d p) (e : itemStep 2 false s p ≡ nothing p) where
+  pub over : length s - p < 4 → done d ≡ descriptorTold s
+  unfolding descriptorTold
+  over h = let w = going-end 2 false s (fieldsOn s) empty d p g e in simp (lt-leb (itemsEnd s + 4) (length s) (omega arith), w .1)
 
-module _ (s : List ℕ) where
-  pub going-start : (d : Descriptor) → d ≡ empty → Going s d 0
-  unfolding itemsOf
-  going-start d e = record { within = omega arith; fields = rw e; end = refl }
-
-  module _ (d : Descriptor) (p : ℕ) (g : Going s d p) where
-    pub going-next : (i : Item) (next : ℕ) → itemStep 2 false s p ≡ found i next → next ≤ length s
-        → Going s (fieldsAfter s (numberAt s (i .klv .at) 2) (i .klv) d) next
-    unfolding before onward fieldsOf
-    going-next i next e h =
-        record {
-          within = h;
-          fields = rw (item-listed 2 false s p, e) at (g .fields);
-          end = rw (ended (itemStep 2 false s) (length s) (item-moves 2 false s) p, e) at (g .end);
-        }
-
-    module _ (q : ℕ) (e : itemStep 2 false s p ≡ nothing q) where
-      going-end : (q ≡ itemsEnd s) × (d ≡ fieldsOf s empty (itemsOf 2 false s))
-      unfolding before onward fieldsOf
-      going-end =
-          (rw (ended (itemStep 2 false s) (length s) (item-moves 2 false s) p, e) at (g .end), rw (item-listed 2 false s p, e) at (g .fields))
-
-      pub over : length s - q < 4 → done d ≡ descriptorTold s
-      unfolding descriptorTold
-      over h = let w = going-end in simp (lt-leb (itemsEnd s + 4) (length s) (omega arith), w .1)
-
-      pub cut : q + 4 ≤ length s → refused 4 ≡ descriptorTold s
-      unfolding descriptorTold
-      cut h = let w = going-end in simp (le-leb (itemsEnd s + 4) (length s) (omega arith))
+  pub cut : p + 4 ≤ length s → refused 4 ≡ descriptorTold s
+  unfolding descriptorTold
+  cut h = let w = going-end 2 false s (fieldsOn s) empty d p g e in simp (le-leb (itemsEnd s + 4) (length s) (omega arith))

@@ -1,4 +1,4 @@
--- What a descriptor set says, by document 01's numbers.
+-- What a descriptor set says, by the numbers of docs/RULES.md, "What a call can say".
 use Prim.Native.Nat.{ℕ, _+_}
 use mathlib.Core.List.{List}
 use mathlib.Core.Bool.{false, cond}
@@ -6,10 +6,11 @@ use lib.ListN.{length}
 use lib.Dec.{leb}
 use Rattle.steps.specs.Listed.{endFrom}
 use Rattle.items.specs.Items.{itemStep, itemsOf}
+use Rattle.items.specs.After.{after}
 use Rattle.descriptor.specs.declared.Descriptor.{Descriptor}
 use Rattle.descriptor.specs.declared.Answer.{Answer}
 use Rattle.descriptor.specs.declared.Answer.the-variants as answer
-use Rattle.descriptor.specs.Fields.{fieldsOf, empty}
+use Rattle.descriptor.specs.Fields.{fieldsOn, empty}
 
 -- the table's number is 0 with fields, and else a refusal's
 pub data Said : Type 0 where
@@ -26,4 +27,4 @@ itemsEnd s = endFrom (itemStep 2 false s) (length s) 0
 
 -- while 4 bytes are left; an item past the set is refusal 4
 unfoldable pub descriptorTold : List ℕ → Said
-descriptorTold s = cond (leb (itemsEnd s + 4) (length s)) (refused 4) (done (fieldsOf s empty (itemsOf 2 false s)))
+descriptorTold s = cond (leb (itemsEnd s + 4) (length s)) (refused 4) (done (after (fieldsOn s) empty (itemsOf 2 false s)))

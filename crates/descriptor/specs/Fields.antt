@@ -1,15 +1,14 @@
--- The items of a descriptor set: document 01, "Tables inside values", Descriptor items.
+-- The items of a descriptor set: docs/RULES.md, "Tables inside values", Descriptor items.
 use Prim.Native.Nat.{ℕ, _+_}
-use mathlib.Core.List.{List, [], _∷_}
+use mathlib.Core.List.{List}
 use mathlib.Core.Bool.{Bool, cond, _&&_}
-use lib.ListN.{take, drop}
 use lib.Dec.{leb, eqb}
 use lib.Ieee.{Float}
 use lib.Ieee.Scale.{finite}
-use Rattle.parts.specs.Number.{numberAt, numberOf}
+use Rattle.parts.specs.Number.{numberAt, fourAt}
 use Rattle.floats.specs.Quotients.{ratio}
 use Rattle.klv.specs.declared.Klv.{Klv}
-use Rattle.klv.specs.Item.{Item}
+use Rattle.klv.specs.Item.{Item, tagOf}
 use Rattle.descriptor.specs.declared.Whole.{Whole}
 use Rattle.descriptor.specs.declared.Whole.the-variants as whole
 use Rattle.descriptor.specs.declared.Rate.{Rate}
@@ -32,7 +31,7 @@ finiteRate x = cond (finite x) (rate.Is x) rate.Nothing
 -- a rate after an item: the f64 quotient of two numbers of 4 bytes, which replaces an earlier one
 unfoldable pub rateAfter : List ℕ → ℕ → Klv → ℕ → Rate → Rate
 rateAfter s tag k field old =
-    cond (holds tag k field 8) (finiteRate (ratio (numberOf (take 4 (drop (k .value) s))) (numberOf (take 4 (drop (k .value + 4) s))))) old
+    cond (holds tag k field 8) (finiteRate (ratio (fourAt s (k .value)) (fourAt s (k .value + 4)))) old
 
 -- an area after an item: its tags follow each other
 unfoldable pub areaAfter : List ℕ → ℕ → Klv → ℕ → Area → Area
@@ -80,7 +79,6 @@ empty = record {
   «color_range» = whole.Nothing;
 }
 
--- after items, each with the number of its two tag bytes
-unfoldable pub fieldsOf : List ℕ → Descriptor → List Item → Descriptor
-fieldsOf s d [] = d
-fieldsOf s d (i ∷ more) = fieldsOf s (fieldsAfter s (numberAt s (i .klv .at) 2) (i .klv) d) more
+-- after an item of the set
+abbrev pub fieldsOn : List ℕ → Descriptor → Item → Descriptor
+fieldsOn s d i = fieldsAfter s (tagOf i) (i .klv) d

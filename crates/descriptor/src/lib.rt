@@ -1,17 +1,19 @@
-// Descriptor items: document 01, "while 4 bytes are left; an item past the set is refusal 4; above 8 bytes skipped; too short
-// for its type ignored; a longer one gives its first bytes. Rates are f64 quotients; one that isn't finite is stored as
-// nothing, replacing an earlier one." The tags and their order are those of the list in `sony/mxf.rs`.
+// Descriptor items: docs/RULES.md, "Tables inside values". They are read while 4 bytes are left; an item past the set is refusal 4. An
+// item above 8 bytes is skipped, one too short for its type ignored, and a longer one gives its first bytes. Rates are f64
+// quotients; one that isn't finite is stored as nothing, replacing an earlier one. Tags and order are those of the list in
+// `sony/mxf.rs`.
 ghost use mathlib.Core.Path.{_≡_};
 ghost use Prim.Native.Nat.{_+_, _≤_, _<_};
 ghost use lib.ListN.{length};
 ghost use Rattle.descriptor.specs.Fields.{holds, wholeAfter, finiteRate, rateAfter, areaAfter, fieldsAfter, noArea, empty};
 ghost use Rattle.descriptor.specs.Descriptor.{told, descriptorTold};
 use items::Coding;
-use items::Held;
 use items::Local;
+use items::LocalNext;
 use klv::Klv;
 use parts::four_at;
 use parts::number_at;
+use parts::two_at;
 
 // A field that is a whole number.
 pub enum Whole {
@@ -50,7 +52,7 @@ pub struct Descriptor {
 }
 
 // Whether an item with a tag is a field's of n bytes.
-fn holds(tag: u64, k: Klv, field: u64, n: usize) -> bool
+fn holds(tag: u16, k: Klv, field: u16, n: usize) -> bool
     ensures { λ r. ⌜ r ≡ holds tag k field n ⌝ }
 {
     if tag != field {
@@ -63,7 +65,7 @@ fn holds(tag: u64, k: Klv, field: u64, n: usize) -> bool
 }
 
 // A field of n bytes after an item.
-fn whole_after(s: &[u8], tag: u64, k: Klv, field: u64, n: usize, old: Whole) -> Whole
+fn whole_after(s: &[u8], tag: u16, k: Klv, field: u16, n: usize, old: Whole) -> Whole
     requires { ⌜ k .value + k .len ≤ length (now s) ⌝ }
     ensures { λ r. ⌜ r ≡ wholeAfter (now (s .entry)) tag k field n old ⌝ }
 {
@@ -84,7 +86,7 @@ fn finite_rate(x: f64) -> Rate
 }
 
 // A rate after an item.
-fn rate_after(s: &[u8], tag: u64, k: Klv, field: u64, old: Rate) -> Rate
+fn rate_after(s: &[u8], tag: u16, k: Klv, field: u16, old: Rate) -> Rate
     requires { ⌜ k .value + k .len ≤ length (now s) ⌝ }
     ensures { λ r. ⌜ r ≡ rateAfter (now (s .entry)) tag k field old ⌝ }
 {
@@ -96,8 +98,8 @@ fn rate_after(s: &[u8], tag: u64, k: Klv, field: u64, old: Rate) -> Rate
 }
 
 // An area after an item: its tags follow each other.
-fn area_after(s: &[u8], tag: u64, k: Klv, first: u64, old: Area) -> Area
-    requires { ⌜ (k .value + k .len ≤ length (now s)) × (first < 65536) ⌝ }
+fn area_after(s: &[u8], tag: u16, k: Klv, first: u16, old: Area) -> Area
+    requires { ⌜ (k .value + k .len ≤ length (now s)) × (first < 65532) ⌝ }
     ensures { λ r. ⌜ r ≡ areaAfter (now (s .entry)) tag k first old ⌝ }
 {
     let height = old.height;
@@ -113,7 +115,7 @@ fn area_after(s: &[u8], tag: u64, k: Klv, first: u64, old: Area) -> Area
 }
 
 // The fields after an item with a tag.
-fn fields_after(s: &[u8], tag: u64, k: Klv, d: Descriptor) -> Descriptor
+fn fields_after(s: &[u8], tag: u16, k: Klv, d: Descriptor) -> Descriptor
     requires { ⌜ k .value + k .len ≤ length (now s) ⌝ }
     ensures { λ r. ⌜ r ≡ fieldsAfter (now (s .entry)) tag k d ⌝ }
 {
@@ -193,13 +195,13 @@ pub fn read(s: &[u8]) -> Answer
     loop {
         let c = Local { at };
         let t = c.step(s, Coding::TWO_TWO);
-        let Held::Item(k, next) = t else {
+        let LocalNext::Item(k, next) = t else {
             if s.len() - at < 4 {
                 return Answer::Is(d);
             }
             return Answer::Refused;
         };
-        d = fields_after(s, number_at(s, at, 2), k, d);
+        d = fields_after(s, two_at(s, k.at), k, d);
         at = next.at;
     }
 }

@@ -6,7 +6,7 @@ use mathlib.Core.Bool.{Bool, true, false, not}
 use Prim.Native.Nat.{ℕ, suc, _+_, _-_, _*_, _^_, _≤_, _<_}
 use native.Mathlib.Nat.{le-trans, le-of-eq, le-of-lt, lt-of-lt-of-le, lt-of-le-of-lt, lt-of-not-le, not-le-of-lt, eq-of-mul-eq-mul-right, mul-assoc, mul-one, mul-right-comm, mul-le-mul-right, zero-add}
 use native.Mathlib.Omega.{arith}
-use lib.Count.{leadingZeros, leading-top}
+use lib.Count.{leadingZeros, leading-top, leading-length}
 use lib.Dec.{T, leb, leb→le, nleb→lt}
 use lib.Pow.{pow-add, pow-pos, pow-mono, pow-lt}
 use lib.Ieee.{Float, nan, inf, fin, binary32, up, down, round, ofInt, ofBits}
@@ -15,8 +15,9 @@ use lib.Ieee.Exact.{HasValue}
 use lib.Ieee.Nearest.{closest}
 use lib.Ieee.Scale.{overflow}
 use Rattle.floats.specs.Rounding.{nearestF32, packedBits}
-use Rattle.floats.specs.Near.{Near}
-use Rattle.floats.proofs.Halves.{within, at-most}
+use Rattle.floats.specs.Near.{IsWhole, Near}
+use Rattle.floats.specs.Exactly.{dropped, LowBitsDropped}
+use Rattle.floats.proofs.Halves.{below-half, within, at-most}
 use Rattle.floats.proofs.Dyadic.{dyadic-bits, dyadic-value}
 
 module _ (v z j : ℕ) (Z : z + suc j ≡ 32) (lo : 2 ^ j ≤ v) (hi : v < 2 ^ suc j) (b d : ℕ) (e : 149 + d + z ≡ b + 157) where
@@ -47,7 +48,7 @@ of-zeros v p h =
     let z = leadingZeros 32 v in
     (omega (arith, t .1), whole-bits v z (t .0) (t .1) (t .2) (t .3) 24 (32 - z) (omega (arith, t .1)))
 
--- ---- within 128
+-- ---- how many low bits are dropped
 -- a fraction whose top and bottom share a factor
 cancel : (x : Float) (s : Bool) (a c : ℕ) → 0 < c → HasValue x s (a * c) c → HasValue x s a 1
 cancel nan s a c C h = h
@@ -56,28 +57,48 @@ cancel (fin t m e) s a c C h =
     let g : m * up e * c ≡ a * down e * c = h .1 ∙ mul-right-comm a c (down e) in
     (h .0, mul-one (m * up e) ∙ eq-of-mul-eq-mul-right c C (m * up e) (a * down e) g)
 
--- a u32 above 2 ^ 24 loses at most 8 digits, which is 128 at most either way
-large : (v : ℕ) → 2 ^ 24 < v → v < 2 ^ 32 → Near 128 (round binary32 false v 1) v
+-- from 2 ^ 24 on
+large : (v : ℕ) → 2 ^ 24 ≤ v → v < 2 ^ 32 → IsWhole (round binary32 false v 1) (closest v (2 ^ dropped v) * 2 ^ dropped v)
 large v l h =
     let t = leading-top 32 v (omega arith) h in
     let z = leadingZeros 32 v in
     let j = t .0 in
-    let few : z < 8 = lt-of-not-le (λ (g : 8 ≤ z). not-le-of-lt (lt-of-lt-of-le l (le-of-lt (t .3))) (pow-mono {i = suc j} {j = 24} (omega (arith, t .1)))) in
+    let few : z < 8 = lt-of-not-le (λ (g : 8 ≤ z). not-le-of-lt (lt-of-le-of-lt l (t .3)) (pow-mono {i = suc j} {j = 24} (omega (arith, t .1)))) in
     let d = 8 - z in
     let q = closest (v * 2 ^ 0) (2 ^ d) in
-    let w = within (v * 2 ^ 0) (2 ^ d) (pow-pos d) in
-    let m : 2 ^ d ≤ 2 ^ 8 = pow-mono {i = d} {j = 8} (omega arith) in
     let same : q * 2 ^ (157 - z) ≡ q * 2 ^ d * 2 ^ 149 = ap (λ (x : ℕ). q * 2 ^ x) (omega arith) ∙ ap (λ (x : ℕ). q * x) (pow-add 2 d 149) ∙ sym (mul-assoc q (2 ^ d) (2 ^ 149)) in
     let small : q * 2 ^ (157 - z) < overflow binary32 =
     lt-of-le-of-lt (mul-le-mul-right (2 ^ (157 - z)) (le-trans (at-most (v * 2 ^ 0) (2 ^ d)) (omega (arith, mul-one v))))
     (lt-of-le-of-lt (le-of-eq (sym (pow-add 2 32 (157 - z)))) (pow-lt {i = 32 + (157 - z)} {j = 277} (omega arith))) in
     let value = whole-value v z j (t .1) (t .2) (t .3) 0 d (omega (arith, t .1)) small in
-    (q * 2 ^ d, cancel (round binary32 false v 1) false (q * 2 ^ d) (2 ^ 149) (pow-pos 149) (subst (λ (x : ℕ). HasValue (round binary32 false v 1) false x (2 ^ 149)) same value), omega (arith, mul-one v), omega (arith, mul-one v))
+    let whole = cancel (round binary32 false v 1) false (q * 2 ^ d) (2 ^ 149) (pow-pos 149) (subst (λ (x : ℕ). HasValue (round binary32 false v 1) false x (2 ^ 149)) same value) in
+    subst (λ (x : ℕ). IsWhole (round binary32 false v 1) (closest x (2 ^ d) * 2 ^ d)) (mul-one v) whole
 
-pub within-128 : (v : ℕ) → v < 2 ^ 32 → Near 128 (nearestF32 v) v
+-- below it nothing is dropped
+none : (v : ℕ) → v < 2 ^ 24 → dropped v ≡ 0
+none v h =
+    let t = leading-length 32 v (omega arith) in
+    let m = t .0 in
+    let few : m < 25 = lt-of-not-le (λ (g : 25 ≤ m). let y : 2 ^ 25 ≤ 2 ^ m = pow-mono {i = 25} {j = m} g in omega (arith, t .3)) in
+    omega (arith, t .1)
+
+small : (v : ℕ) → v < 2 ^ 24 → IsWhole (round binary32 false v 1) (closest v (2 ^ dropped v) * 2 ^ dropped v)
+small v h =
+    let c : closest v 1 ≡ v = below-half v 1 (omega arith) ∙ omega arith in
+    rw (none v h) (subst (λ (x : ℕ). IsWhole (round binary32 false v 1) x) (sym (ap (λ (x : ℕ). x * 1) c ∙ mul-one v)) (round-whole binary32 false v (omega arith)))
+
+pub low-bits-dropped : LowBitsDropped
 unfolding nearestF32 ofInt
-within-128 v h = go (leb v (2 ^ 24)) (leb→le v (2 ^ 24)) (nleb→lt v (2 ^ 24))
+low-bits-dropped v h = go (leb (2 ^ 24) v) (leb→le (2 ^ 24) v) (nleb→lt (2 ^ 24) v)
   where
-    go : (b : Bool) → (T b → v ≤ 2 ^ 24) → (T (not b) → 2 ^ 24 < v) → Near 128 (round binary32 false v 1) v
-    go true l g = (v, round-whole binary32 false v (l tt), omega arith, omega arith)
-    go false l g = large v (g tt) h
+    go : (b : Bool) → (T b → 2 ^ 24 ≤ v) → (T (not b) → v < 2 ^ 24) → IsWhole (round binary32 false v 1) (closest v (2 ^ dropped v) * 2 ^ dropped v)
+    go true l g = large v (l tt) h
+    go false l g = small v (g tt)
+
+-- at most 8 bits are dropped, which is 128 at most either way
+pub within-128 : (v : ℕ) → v < 2 ^ 32 → Near 128 (nearestF32 v) v
+within-128 v h =
+    let d = dropped v in
+    let w = within v (2 ^ d) (pow-pos d) in
+    let m : 2 ^ d ≤ 2 ^ 8 = pow-mono {i = d} {j = 8} (omega arith) in
+    (closest v (2 ^ d) * 2 ^ d, low-bits-dropped v h, omega arith, omega arith)

@@ -1,3 +1,4 @@
 pub mod Rounding
 pub mod Quotients
 pub mod Near
+pub mod Exactly

@@ -1,9 +1,8 @@
 // Numbers that round, and the conversions on which frame values stand.
 //
-// Document 01: "`of_dynamic` turns a u32 into an f32 to the nearest, ties to even, before it divides in f32. The count of leading zero bits fixes how many low
-// bits are dropped. The f32 is within 128 of the u32. `of_alexa35` focal length likewise; its distances multiply in f64, then narrow once by the same rule";
-// "angles at E0h and E4h are the low 16 bits, signed, over 10"; "Canon ratios are the quotient of the two numbers, rounded once as f64"; "Rates are f64 quotients;
-// one that isn't finite is stored as nothing"; "Rounding casts: worked out on the float's bits".
+// docs/RULES.md, "Frame values". A u32 becomes an f32 to the nearest, ties to even, before it is divided in f32: the count of leading
+// zero bits fixes how many low bits are dropped. Canon ratios and rates are one division in f64. Distances of the ALEXA 35 multiply in f64, then
+// narrow once. Rounding casts are worked out on the float's bits.
 //
 // Each contract equates the result with a definition of specs/, in the operations of IEEE 754 as `lib.Ieee` has them, at every input: zeros keep their sign, and
 // NaNs and infinities are answered as Rust answers them.
@@ -43,8 +42,8 @@ const INFINITY_F64: u64 = 0x7ff0_0000_0000_0000;
 
 const SIGN_F64: u64 = 0x8000_0000_0000_0000;
 
-// a less b, or 0 where b is larger.
-fn less(a: u64, b: u64) -> u64
+// a - b, or 0 where b is the larger.
+fn saturating_sub(a: u64, b: u64) -> u64
     ensures { λ r. ⌜ r ≡ a - b ⌝ }
 {
     if a < b { 0 } else { a - b }
@@ -108,8 +107,8 @@ pub fn narrow_f32(x: f64) -> f32
     let bits = f64::to_bits(x);
     let field = bits / EXPONENT_F64 % 2048;
     let digits = bits % EXPONENT_F64 + EXPONENT_F64;
-    let dropped = 29 + least(less(897, field), 34);
-    let magnitude = packed_f32(less(field, 897), digits, dropped as u32);
+    let dropped = 29 + least(saturating_sub(897, field), 34);
+    let magnitude = packed_f32(saturating_sub(field, 897), digits, dropped as u32);
     let sign = (bits / SIGN_F64) as u32;
     f32::from_bits(sign * SIGN_F32 + magnitude)
 }

@@ -2,7 +2,7 @@
 //
 // The file `stdout` holds what Rust answers for the same inputs. It was made by a Rust program that takes a kind and an input a, with v the low and h the
 // high 32 bits of a, and prints the bits of the expression that stands at the kind in `sample` below, a NaN's as 7fc00000 or 7ff8000000000000.
-// Among the lines is the unstarred number of document 01, 4,294,967,295 to 4,294,967,296.
+// Among the lines is the unstarred number of docs/RULES.md, 4,294,967,295 to 4,294,967,296.
 
 // Whole numbers and f32 bits: each power's two sides, ties to either side, and some at random.
 const WHOLE: [u64; 65] = [

@@ -1,12 +1,9 @@
--- What the numbers of a frame's metadata say, each kind once: document 01, "Frame values".
+-- What the numbers of a frame's metadata say, each kind once: docs/RULES.md, "Frame values".
 use Prim.Native.Nat.{ℕ, _^_}
-use mathlib.Core.List.{List}
 use mathlib.Core.Bool.{Bool, _&&_, cond}
-use lib.ListN.{take, drop}
 use lib.Dec.{ltb}
 use lib.Ieee.{binary32, ofBits}
 use lib.Ieee.Scale.{finite}
-use Rattle.parts.specs.Number.{numberOf}
 use Rattle.floats.specs.Quotients.{ratio, thousandthsF32}
 use Rattle.frame_values.specs.declared.Single.{Single}
 use Rattle.frame_values.specs.declared.Double.{Double}
@@ -14,10 +11,6 @@ use Rattle.frame_values.specs.declared.TiltRoll.{TiltRoll}
 use Rattle.frame_values.specs.declared.Single.the-variants as single
 use Rattle.frame_values.specs.declared.Double.the-variants as double
 use Rattle.frame_values.specs.declared.TiltRoll.the-variants as angles
-
--- the u32 at a place: the number that its four bytes hold, or as many of them as are there
-unfoldable pub u32At : List ℕ → ℕ → ℕ
-u32At s at = numberOf (take 4 (drop at s))
 
 -- a float by its bits, where it is finite
 unfoldable pub floatOf : ℕ → Single

@@ -1,8 +1,8 @@
-// One record holds all values of a frame: document 01, "Frame values". ALEXA Mini's (`arri_mini`) and ALEXA 35's
-// (`alexa35`) metadata fill the same one, each what it has. What the two share is here: the record, and the kinds of
+// One record holds all values of a frame: docs/RULES.md, "Frame values". ALEXA Mini's (`arri_mini`) and ALEXA 35's
+// (`arri_alexa35`) metadata fill the same one, each what it has. What the two share is here: the record, and the kinds of
 // number that both have.
 ghost use mathlib.Core.Path.{_≡_};
-ghost use Rattle.frame_values.specs.Values.{u32At, floatOf, positive, singleThousandths, doubleThousandths, tiltRollOf};
+ghost use Rattle.frame_values.specs.Values.{floatOf, positive, singleThousandths, doubleThousandths, tiltRollOf};
 
 // An f32, where there is one.
 pub enum Single {
@@ -93,13 +93,6 @@ pub struct Frame {
     pub encoders: Encoders,
     pub tint: Double,
     pub sensor_rate: Double,
-}
-
-// The u32 at a place: the number that its four bytes hold, or as many of them as are there.
-pub fn u32_at(s: &[u8], at: usize) -> u32
-    ensures { λ r. ⌜ r ≡ u32At (now (s .entry)) at ⌝ }
-{
-    parts::four_at(s, at)
 }
 
 // The float that has these bits, where it is finite.

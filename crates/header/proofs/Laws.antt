@@ -10,7 +10,7 @@ use Rattle.steps.specs.Told.{found, nothing}
 use Rattle.labels.specs.Label.{beginning}
 use Rattle.klv.specs.Item.{Item}
 use Rattle.items.specs.Items.{runStep}
-use Rattle.header.specs.declared.Header.the-variants.{Part, Nothing}
+use Rattle.parts.specs.Answer.{is, none}
 use Rattle.header.specs.Header.{partitionPrefix, isHeader, sizeOf, afterPack, headerOf}
 
 module _ (s : List ℕ) where
@@ -27,20 +27,20 @@ module _ (s : List ℕ) where
   unfolding isHeader
   header-two e = simp (eq-eqb _ _ e)
 
-  pub part-none : isHeader s ≡ false → headerOf s ≡ Nothing
+  pub part-none : isHeader s ≡ false → headerOf s ≡ none
   unfolding headerOf
   part-none h = simp h
 
   module _ (h : isHeader s ≡ true) where
-    pub part-no-pack : (p : ℕ) → runStep s 0 ≡ nothing p → headerOf s ≡ Nothing
+    pub part-no-pack : (p : ℕ) → runStep s 0 ≡ nothing p → headerOf s ≡ none
     unfolding headerOf afterPack
     part-no-pack p r = simp (h, r)
 
     module _ (i : Item) (next : ℕ) (r : runStep s 0 ≡ found i next) where
-      pub part-small : i .klv .len < 40 → headerOf s ≡ Nothing
+      pub part-small : i .klv .len < 40 → headerOf s ≡ none
       unfolding headerOf afterPack
       part-small m = simp (h, r, lt-leb _ _ m)
 
-      pub part-whole : 40 ≤ i .klv .len → headerOf s ≡ Part (record { at = next; len = min (sizeOf s (i .klv .value)) (length s - next) })
+      pub part-whole : 40 ≤ i .klv .len → headerOf s ≡ is (record { at = next; len = min (sizeOf s (i .klv .value)) (length s - next) })
       unfolding headerOf afterPack
       part-whole m = simp (h, r, le-leb _ _ m)

@@ -1,4 +1,4 @@
--- The header part: document 01, "Tables inside values".
+-- The header part: docs/RULES.md, "Tables inside values".
 use Prim.Native.Nat.{ℕ, _+_, _-_, min}
 use mathlib.Core.List.{List, [], _∷_}
 use mathlib.Core.Bool.{Bool, cond, _&&_}
@@ -6,11 +6,18 @@ use lib.ListN.{length, getD, take, drop}
 use lib.Dec.{leb, eqb}
 use Rattle.steps.specs.Told.{Told, found, nothing, refused}
 use Rattle.parts.specs.Number.{numberAt}
+use Rattle.parts.specs.Answer.{Answer, is, none}
 use Rattle.labels.specs.Label.{beginning}
 use Rattle.klv.specs.Item.{Item}
 use Rattle.items.specs.Items.{runStep}
+use Rattle.header.specs.declared.Place.{Place}
 use Rattle.header.specs.declared.Header.{Header}
 use Rattle.header.specs.declared.Header.the-variants.{Part, Nothing}
+
+-- an answer says where the part is and how long, or that there is none
+abbrev pub told : Header → Answer Place
+told (Part p) = is p
+told Nothing = none
 
 -- PARTITION_PREFIX
 abbrev pub partitionPrefix : List ℕ
@@ -25,20 +32,20 @@ unfoldable pub sizeOf : List ℕ → ℕ → ℕ
 sizeOf s v = numberAt s (v + 32) 8 + numberAt s (v + 4) 4
 
 -- pack whole and at least 40 bytes: the part after it, cut to the buffer
-unfoldable pub afterPack : List ℕ → Told Item → Header
+unfoldable pub afterPack : List ℕ → Told Item → Answer Place
 afterPack s (found i next) =
-    cond (leb 40 (i .klv .len)) (Part (record { at = next; len = min (sizeOf s (i .klv .value)) (length s - next) })) Nothing
-afterPack s (nothing p) = Nothing
-afterPack s (refused n p) = Nothing
+    cond (leb 40 (i .klv .len)) (is (record { at = next; len = min (sizeOf s (i .klv .value)) (length s - next) })) none
+afterPack s (nothing p) = none
+afterPack s (refused n p) = none
 
 -- the pack is the KLV at 0
-unfoldable pub headerOf : List ℕ → Header
-headerOf s = cond (isHeader s) (afterPack s (runStep s 0)) Nothing
+unfoldable pub headerOf : List ℕ → Answer Place
+headerOf s = cond (isHeader s) (afterPack s (runStep s 0)) none
 
 -- its bytes
-unfoldable pub bytesOf : List ℕ → Header → List ℕ
-bytesOf s (Part p) = take (p .len) (drop (p .at) s)
-bytesOf s Nothing = []
+unfoldable pub bytesOf : List ℕ → Answer Place → List ℕ
+bytesOf s (is p) = take (p .len) (drop (p .at) s)
+bytesOf s none = []
 
 abbrev pub headerBytes : List ℕ → List ℕ
 headerBytes s = bytesOf s (headerOf s)

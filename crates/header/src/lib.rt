@@ -1,12 +1,12 @@
-// The header part: document 01, "Header part: label begins with the 13 bytes of `PARTITION_PREFIX`, byte 13 is 2, pack
-// whole and at least 40 bytes. The part after the pack, of (number at 32..40) + (number at 4..8) bytes, cut to the
-// buffer."
+// The header part: docs/RULES.md, "Tables inside values". The label begins with the 13 bytes of `PARTITION_PREFIX`, byte 13 is 2, the
+// pack is whole and has at least 40 bytes. The part is what follows the pack, of (number at 32..40) + (number at 4..8)
+// bytes, cut to the buffer.
 ghost use mathlib.Core.Path.{_≡_};
 ghost use Prim.Native.Nat.{_+_, _≤_, min};
 ghost use lib.ListN.{length};
-ghost use Rattle.header.specs.Header.{isHeader, sizeOf, headerOf, headerBytes};
-use items::Found;
+ghost use Rattle.header.specs.Header.{told, isHeader, sizeOf, headerOf, headerBytes};
 use items::Run;
+use items::RunNext;
 use labels::PARTITION_PREFIX;
 use parts::number;
 
@@ -58,13 +58,13 @@ fn size_of(s: &[u8], v: usize, rest: usize) -> usize
 
 // The place of the header part, after the header partition pack that the buffer begins with.
 pub fn find(s: &[u8]) -> Header
-    ensures { λ r. ⌜ r ≡ headerOf (now (s .entry)) ⌝ }
+    ensures { λ r. ⌜ told r ≡ headerOf (now (s .entry)) ⌝ }
 {
     if !is_header(s) {
         return Header::Nothing;
     }
     let step = Run { at: 0 }.step(s);
-    let Found::Item(k, next) = step else {
+    let RunNext::Item(k, next) = step else {
         return Header::Nothing;
     };
     if k.len < 40 {

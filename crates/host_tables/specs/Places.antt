@@ -2,29 +2,20 @@
 use Prim.Native.Nat.{ℕ}
 use mathlib.Core.List.{List, [], _∷_}
 use Rattle.steps.specs.Told.{Told, found, nothing, refused}
-use Rattle.header.specs.declared.Header.{Header}
-use Rattle.header.specs.declared.Header.the-variants as header
-use Rattle.primer.specs.declared.Entry as primer
-use Rattle.primer.specs.declared.Entry.the-variants as label
-use Rattle.arri_block.specs.declared.Block.{Block}
-use Rattle.arri_block.specs.declared.Block.the-variants as block
+use Rattle.parts.specs.Answer.{Answer, is, none}
+use Rattle.header.specs.declared.Place.{Place}
 use Rattle.st436.specs.Lines.{Counted}
 use Rattle.canon_sets.specs.Package.{Entry}
 
 -- found, the part's place and length
-unfoldable pub headerPlaces : Header → List ℕ
-headerPlaces (header.Part p) = 1 ∷ p .at ∷ p .len ∷ []
-headerPlaces header.Nothing = 0 ∷ 0 ∷ 0 ∷ []
+unfoldable pub headerPlaces : Answer Place → List ℕ
+headerPlaces (is p) = 1 ∷ p .at ∷ p .len ∷ []
+headerPlaces none = 0 ∷ 0 ∷ 0 ∷ []
 
--- found, the label's place
-unfoldable pub entryPlaces : primer.Entry → List ℕ
-entryPlaces (label.Label at) = 1 ∷ at ∷ []
-entryPlaces label.Nothing = 0 ∷ 0 ∷ []
-
--- found, the block's place
-unfoldable pub blockPlaces : Block → List ℕ
-blockPlaces (block.At at) = 1 ∷ at ∷ []
-blockPlaces block.Nothing = 0 ∷ 0 ∷ []
+-- found, the place of a primer's label or of a block
+unfoldable pub startPlaces : Answer ℕ → List ℕ
+startPlaces (is at) = 1 ∷ at ∷ []
+startPlaces none = 0 ∷ 0 ∷ []
 
 -- the payload's length, whether it was put or not
 unfoldable pub payloadPlaces : ℕ × ℕ → List ℕ

@@ -10,7 +10,7 @@ ghost use Rattle.st436.specs.Payload.{payloadSaid, payloadInto};
 ghost use Rattle.canon_sequence.specs.Sequence.{sequenceOf};
 ghost use Rattle.canon_sets.specs.Package.{valuesFrom};
 ghost use Rattle.canon_sets.specs.Told.{firstOf};
-ghost use Rattle.host_tables.specs.Places.{headerPlaces, entryPlaces, blockPlaces, payloadPlaces, linePlaces, packagePlaces};
+ghost use Rattle.host_tables.specs.Places.{headerPlaces, startPlaces, payloadPlaces, linePlaces, packagePlaces};
 ghost use Rattle.host_tables.specs.Sequence.{spotOf, positionFound, positionFigure, sequencePlaces, positionPlaces};
 use arri_block::Block;
 use canon_sequence::Identifier;
@@ -41,7 +41,7 @@ pub extern "C" fn brine_header(s: &[u8], out: &mut [u64; 3]) -> u32
 #[no_mangle]
 pub extern "C" fn brine_primer(s: &[u8], tag: u64, out: &mut [u64; 2]) -> u32
     ensures { λ r. ⌜ r ≡ 0 ⌝ }
-    ensures { λ r. ⌜ now (out .exit) ≡ entryPlaces (entryOf (now (s .entry)) tag) ⌝ }
+    ensures { λ r. ⌜ now (out .exit) ≡ startPlaces (entryOf (now (s .entry)) tag) ⌝ }
 {
     let e = primer::find(s, tag);
     match e {
@@ -55,7 +55,7 @@ pub extern "C" fn brine_primer(s: &[u8], tag: u64, out: &mut [u64; 2]) -> u32
 #[no_mangle]
 pub extern "C" fn brine_arri_block(element: &[u8], out: &mut [u64; 2]) -> u32
     ensures { λ r. ⌜ r ≡ 0 ⌝ }
-    ensures { λ r. ⌜ now (out .exit) ≡ blockPlaces (blockOf (now (element .entry))) ⌝ }
+    ensures { λ r. ⌜ now (out .exit) ≡ startPlaces (blockOf (now (element .entry))) ⌝ }
 {
     let b = arri_block::find(element);
     match b {

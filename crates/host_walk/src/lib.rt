@@ -8,10 +8,10 @@ ghost use Rattle.items.specs.Items.{itemStep, runStep};
 ghost use Rattle.walk.specs.Walk.{finishedStep, arrivingStep};
 ghost use Rattle.host_walk.specs.Places.{itemPlaces, lengthPlaces};
 use items::Coding;
-use items::Found;
-use items::Held;
 use items::Local;
+use items::LocalNext;
 use items::Run;
+use items::RunNext;
 use lengths::Length;
 use walk::Arrived;
 use walk::Cursor;
@@ -96,14 +96,14 @@ pub extern "C" fn brine_run(s: &[u8], at: usize, out: &mut [u64; 5]) -> u32
 {
     let t = Run { at }.step(s);
     match t {
-        Found::Item(k, next) => *out = [
+        RunNext::Item(k, next) => *out = [
             1,
             k.at as u64,
             k.value as u64,
             k.len as u64,
             next.at as u64,
         ],
-        Found::End => *out = [0, 0, 0, 0, at as u64],
+        RunNext::End => *out = [0, 0, 0, 0, at as u64],
     }
     0
 }
@@ -116,14 +116,14 @@ pub extern "C" fn brine_item(s: &[u8], tag: usize, ber: bool, at: usize, out: &m
 {
     let t = Local { at }.step(s, Coding { tag, ber });
     match t {
-        Held::Item(k, next) => *out = [
+        LocalNext::Item(k, next) => *out = [
             1,
             k.at as u64,
             k.value as u64,
             k.len as u64,
             next.at as u64,
         ],
-        Held::End => *out = [0, 0, 0, 0, at as u64],
+        LocalNext::End => *out = [0, 0, 0, 0, at as u64],
     }
     0
 }

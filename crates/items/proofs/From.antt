@@ -10,10 +10,10 @@ use Rattle.klv.specs.declared.Klv.{Klv}
 use Rattle.klv.specs.Item.{Item, item}
 use Rattle.items.specs.declared.Run.{Run}
 use Rattle.items.specs.declared.Local.{Local}
-use Rattle.items.specs.declared.Found.{Found}
-use Rattle.items.specs.declared.Found.the-variants as answer
-use Rattle.items.specs.declared.Held.{Held}
-use Rattle.items.specs.declared.Held.the-variants as held
+use Rattle.items.specs.declared.RunNext.{RunNext}
+use Rattle.items.specs.declared.RunNext.the-variants as run
+use Rattle.items.specs.declared.LocalNext.{LocalNext}
+use Rattle.items.specs.declared.LocalNext.the-variants as local
 use Rattle.items.specs.Items.{itemStep}
 use Rattle.items.specs.Told.{told, localTold}
 use Rattle.items.proofs.Lists.{item-listed}
@@ -31,17 +31,17 @@ module _ (key : ℕ) (ber : Bool) (s : List ℕ) (p : ℕ) where
   one-more i q e = item-listed key ber s p ∙ ap (before (itemsFrom key ber s)) e
 
   -- what a step over a set's items answers
-  pub held-item : (h : Held) → localTold key s p h ≡ itemStep key ber s p → (k : Klv) (next : Local) → h ≡ held.Item k next
+  pub local-item : (h : LocalNext) → localTold key s p h ≡ itemStep key ber s p → (k : Klv) (next : Local) → h ≡ local.Item k next
       → itemStep key ber s p ≡ found (item key s k) (next .at)
-  held-item h t k next e = sym (rw e at t)
+  local-item h t k next e = sym (rw e at t)
 
-  pub held-end : (h : Held) → localTold key s p h ≡ itemStep key ber s p → h ≡ held.End → itemStep key ber s p ≡ nothing p
-  held-end h t e = sym (rw e at t)
+  pub local-end : (h : LocalNext) → localTold key s p h ≡ itemStep key ber s p → h ≡ local.End → itemStep key ber s p ≡ nothing p
+  local-end h t e = sym (rw e at t)
 
 -- and a step of a run
-pub run-item : (s : List ℕ) (p : ℕ) (h : Found) → told s p h ≡ itemStep 16 true s p → (k : Klv) (next : Run) → h ≡ answer.Item k next
+pub run-item : (s : List ℕ) (p : ℕ) (h : RunNext) → told s p h ≡ itemStep 16 true s p → (k : Klv) (next : Run) → h ≡ run.Item k next
     → itemStep 16 true s p ≡ found (item 16 s k) (next .at)
 run-item s p h t k next e = sym (rw e at t)
 
-pub run-end : (s : List ℕ) (p : ℕ) (h : Found) → told s p h ≡ itemStep 16 true s p → h ≡ answer.End → itemStep 16 true s p ≡ nothing p
+pub run-end : (s : List ℕ) (p : ℕ) (h : RunNext) → told s p h ≡ itemStep 16 true s p → h ≡ run.End → itemStep 16 true s p ≡ nothing p
 run-end s p h t e = sym (rw e at t)

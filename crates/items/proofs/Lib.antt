@@ -1,4 +1,5 @@
 pub mod Laws
 pub mod Lists
 pub mod From
+pub mod Going
 pub mod Codings

@@ -8,10 +8,10 @@ use lib.ListN.{length}
 use Rattle.steps.specs.Listed.{before, listFrom}
 use Rattle.steps.proofs.Laws.{Moves, listed}
 use Rattle.klv.specs.Item.{Item, item}
-use Rattle.items.specs.declared.Found.{Found}
-use Rattle.items.specs.declared.Found.the-variants as answer
-use Rattle.items.specs.declared.Held.{Held}
-use Rattle.items.specs.declared.Held.the-variants as held
+use Rattle.items.specs.declared.RunNext.{RunNext}
+use Rattle.items.specs.declared.RunNext.the-variants as run
+use Rattle.items.specs.declared.LocalNext.{LocalNext}
+use Rattle.items.specs.declared.LocalNext.the-variants as local
 use Rattle.items.specs.Items.{itemStep}
 use Rattle.items.specs.Told.{told, localTold}
 use Rattle.items.proofs.Laws.{item-fits}
@@ -25,20 +25,20 @@ pub item-listed : (key : ℕ) (ber : Bool) (s : List ℕ) (p : ℕ)
 item-listed key ber s = listed (itemStep key ber s) (length s) (item-moves key ber s)
 
 -- two answers that say the same are the same
-pub told-once : (s : List ℕ) (p : ℕ) (a b : Found) → told s p a ≡ told s p b → a ≡ b
-told-once s p (answer.Item k m) (answer.Item l n) e =
+pub told-once : (s : List ℕ) (p : ℕ) (a b : RunNext) → told s p a ≡ told s p b → a ≡ b
+told-once s p (run.Item k m) (run.Item l n) e =
     let x : item 16 s k ≡ item 16 s l = cc in
     let y : m .at ≡ n .at = cc in
-    λ i. answer.Item (x i .klv) (record { at = y i })
-told-once s p (answer.Item k m) answer.End e = let z : _≡_ {A = ℕ} 0 1 = cc in absurd (omega arith)
-told-once s p answer.End (answer.Item l n) e = let z : _≡_ {A = ℕ} 0 1 = cc in absurd (omega arith)
-told-once s p answer.End answer.End e = refl
+    λ i. run.Item (x i .klv) (record { at = y i })
+told-once s p (run.Item k m) run.End e = let z : _≡_ {A = ℕ} 0 1 = cc in absurd (omega arith)
+told-once s p run.End (run.Item l n) e = let z : _≡_ {A = ℕ} 0 1 = cc in absurd (omega arith)
+told-once s p run.End run.End e = refl
 
-pub local-once : (tag : ℕ) (s : List ℕ) (p : ℕ) (a b : Held) → localTold tag s p a ≡ localTold tag s p b → a ≡ b
-local-once tag s p (held.Item k m) (held.Item l n) e =
+pub local-once : (tag : ℕ) (s : List ℕ) (p : ℕ) (a b : LocalNext) → localTold tag s p a ≡ localTold tag s p b → a ≡ b
+local-once tag s p (local.Item k m) (local.Item l n) e =
     let x : item tag s k ≡ item tag s l = cc in
     let y : m .at ≡ n .at = cc in
-    λ i. held.Item (x i .klv) (record { at = y i })
-local-once tag s p (held.Item k m) held.End e = let z : _≡_ {A = ℕ} 0 1 = cc in absurd (omega arith)
-local-once tag s p held.End (held.Item l n) e = let z : _≡_ {A = ℕ} 0 1 = cc in absurd (omega arith)
-local-once tag s p held.End held.End e = refl
+    λ i. local.Item (x i .klv) (record { at = y i })
+local-once tag s p (local.Item k m) local.End e = let z : _≡_ {A = ℕ} 0 1 = cc in absurd (omega arith)
+local-once tag s p local.End (local.Item l n) e = let z : _≡_ {A = ℕ} 0 1 = cc in absurd (omega arith)
+local-once tag s p local.End local.End e = refl

@@ -1,4 +1,4 @@
--- Items one behind the other: document 01, "A run", and "Local items".
+-- Items one behind the other: docs/RULES.md, "The walk" (runs) and "Tables inside values" (local items).
 use Prim.Native.Nat.{ℕ, _+_, _-_}
 use mathlib.Core.List.{List}
 use mathlib.Core.Bool.{Bool, true, cond}

@@ -1,7 +1,7 @@
-// Items one behind the other, each a key or tag, a length and a value, up to the first that isn't whole: document 01,
-// "A run (`klvs`) is 16 bytes of any kind, a length, a value, repeated to the first that isn't whole. It looks for no
-// key start." "Local items: tag 2, length 2 (BER where the set's label byte 5 is 13h), up to the first not whole." Both
-// are one step over a coding.
+// Items one behind the other, each a key or tag, a length and a value, up to the first that isn't whole: docs/RULES.md,
+// "The walk" and "Tables inside values". A run has keys of 16 bytes of any kind and BER lengths, and looks for no key start.
+// A set's items have tags and lengths of 2 bytes, or BER lengths where its label's byte 5 is 13h. All are one step over a
+// coding.
 ghost use mathlib.Core.Path.{_≡_};
 ghost use Rattle.items.specs.Items.{lengthIn, itemStep, runStep, codingOf};
 ghost use Rattle.items.specs.Told.{wholeTold, told, localTold};
@@ -58,7 +58,7 @@ pub struct Run {
 }
 
 // What a step of a run finds.
-pub enum Found {
+pub enum RunNext {
     // A KLV, and the cursor past it.
     Item(Klv, Run),
     // No whole one is left.
@@ -67,15 +67,15 @@ pub enum Found {
 
 impl Run {
     // The KLV at the cursor, with the moved cursor, or the end.
-    pub fn step(self, s: &[u8]) -> Found
+    pub fn step(self, s: &[u8]) -> RunNext
         ensures { λ r. ⌜ told (now (s .entry)) (self .at) r ≡ runStep (now (s .entry)) (self .at) ⌝ }
     {
         let w = item_at(s, self.at, 16, true);
         let Whole::Is(k) = w else {
-            return Found::End;
+            return RunNext::End;
         };
         let next = k.value + k.len;
-        Found::Item(k, Run { at: next })
+        RunNext::Item(k, Run { at: next })
     }
 }
 
@@ -113,7 +113,7 @@ pub struct Local {
 }
 
 // What a step over a set's items finds.
-pub enum Held {
+pub enum LocalNext {
     // An item, its tag where it starts, and the cursor past it.
     Item(Klv, Local),
     // No whole one is left.
@@ -122,14 +122,14 @@ pub enum Held {
 
 impl Local {
     // The item at the cursor, with the moved cursor, or the end.
-    pub fn step(self, s: &[u8], coding: Coding) -> Held
+    pub fn step(self, s: &[u8], coding: Coding) -> LocalNext
         ensures { λ r. ⌜ localTold (coding .tag) (now (s .entry)) (self .at) r ≡ itemStep (coding .tag) (coding .ber) (now (s .entry)) (self .at) ⌝ }
     {
         let w = item_at(s, self.at, coding.tag, coding.ber);
         let Whole::Is(k) = w else {
-            return Held::End;
+            return LocalNext::End;
         };
         let next = k.value + k.len;
-        Held::Item(k, Local { at: next })
+        LocalNext::Item(k, Local { at: next })
     }
 }

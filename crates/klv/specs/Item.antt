@@ -1,7 +1,8 @@
--- A KLV by its length, and as a list has it: document 01, "The walk", rule 4.
+-- A KLV by its length, and as a list has it: docs/RULES.md, "The walk", rule 4.
 use Prim.Native.Nat.{ℕ, _+_}
 use mathlib.Core.List.{List}
 use lib.ListN.{take, drop}
+use Rattle.parts.specs.Number.{numberOf}
 use Rattle.lengths.specs.declared.Field.{Field}
 use Rattle.klv.specs.declared.Klv.{Klv}
 
@@ -20,6 +21,10 @@ pub record Item : Type 0 where
 
 abbrev pub item : ℕ → List ℕ → Klv → Item
 item key s k = record { klv = k; key = take key (drop (k .at) s) }
+
+-- a local item's tag: the number that its key's bytes hold
+abbrev pub tagOf : Item → ℕ
+tagOf i = numberOf (i .key)
 
 -- its value's bytes
 abbrev pub valueOf : List ℕ → Item → List ℕ

@@ -1,4 +1,4 @@
--- A KLV as text: document 01, "Tally and listing".
+-- A KLV as text: docs/RULES.md, "Tally and listing".
 use Prim.Native.Nat.{ℕ}
 use mathlib.Core.List.{List, [], _∷_, _++_}
 use Rattle.klv.specs.Item.{Item}

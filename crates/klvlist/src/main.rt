@@ -1,10 +1,10 @@
-// Lists the finished walk over standard input, and its tally: document 01, "Tally and listing". Above 65,536 bytes it prints
-// only `too long`.
+// Lists the finished walk over standard input, and its tally: docs/RULES.md, "Tally and listing". Above 65,536 bytes it
+// prints only `too long`.
 ghost use mathlib.Core.Path.{_≡_};
 ghost use Prim.Native.Nat.{_≤_};
 ghost use lib.ListN.{length, take};
 ghost use Rattle.io.specs.Counts.{Counts};
-ghost use Rattle.listing.specs.Listing.{listingOf};
+ghost use Rattle.listing.specs.Listing.{printed};
 
 // Room for the listing of 65,536 bytes.
 fn room() -> [u8; 393216]
@@ -13,22 +13,22 @@ fn room() -> [u8; 393216]
     [0; 393216]
 }
 
-// Puts the whole listing of s at the start of out, and answers how long it is: what the program writes.
-fn listed(s: &[u8], out: &mut [u8]) -> usize
+// Puts the whole of what the program prints at the start of out, and answers how long it is.
+fn put_whole(s: &[u8], more: bool, out: &mut [u8]) -> usize
     requires { ⌜ length (now s) ≤ 65536 ⌝ }
     requires { ⌜ 393216 ≤ length (now out) ⌝ }
-    ensures { λ r. ⌜ take r (now (out .exit)) ≡ listingOf (now (s .entry)) ⌝ }
+    ensures { λ r. ⌜ take r (now (out .exit)) ≡ printed (now (s .entry)) more ⌝ }
     ensures { λ r. ⌜ Counts r (now (out .exit)) ⌝ }
 {
-    listing::list(out, s)
+    listing::print(out, s, more)
 }
 
-// Writes the listing of s.
-fn show(s: &[u8])
+// Writes the listing of the bytes that were read, or `too long` where there are more.
+fn show(s: &[u8], more: bool)
     requires { ⌜ length (now s) ≤ 65536 ⌝ }
 {
     let mut out = room();
-    let n = listed(s, &mut out);
+    let n = put_whole(s, more, &mut out);
     io::write_all(1, &out[..n]);
 }
 
@@ -37,9 +37,5 @@ fn main() {
     let n = io::read_full(0, &mut buf);
     let mut one = [0u8; 1];
     let more = io::read_full(0, &mut one);
-    if more > 0 {
-        io::write_all(1, b"too long\n");
-        return;
-    }
-    show(&buf[..n]);
+    show(&buf[..n], more > 0);
 }

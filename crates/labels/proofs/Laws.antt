@@ -41,7 +41,7 @@ module _ (x y z : ℕ) (a b : List ℕ) where
       let e : i + (16 - i) ≡ 16 = omega arith in
       rw e at (agree-fails i (16 - i) h) ∙ agree-sixteen k l
 
--- a test that wants a false one
+-- where "p, and not t" holds, t does not
 pub unmet : (p t : Bool) → (p && not t) ≡ true → false ≡ t
 unmet p false e = refl
 unmet true true e = e

@@ -1,4 +1,4 @@
--- Labels: document 01, "Lengths and labels".
+-- Labels: docs/RULES.md, "Lengths and labels".
 use Prim.Native.Nat.{ℕ, zero, suc, _+_}
 use mathlib.Core.List.{List, [], _∷_}
 use mathlib.Core.Bool.{Bool, true, false, _&&_, _||_}

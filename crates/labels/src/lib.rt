@@ -1,4 +1,4 @@
-// Labels: document 01, "Lengths and labels". Two labels are the same when both have 16 bytes and agree in all but the
+// Labels: docs/RULES.md, "Lengths and labels". Two labels are the same when both have 16 bytes and agree in all but the
 // byte at 7.
 ghost use mathlib.Core.Path.{_≡_};
 ghost use Rattle.labels.specs.Label.{beginning, agreeBut, sameLabel, labelAt};
@@ -9,9 +9,6 @@ pub const KEY_START: [u8; 4] = *b"\x06\x0e\x2b\x34";
 // The partition packs' labels, ahead of their kind (2 the header's, 3 a body's, 4 the footer's), their status and 0
 // (ST 377-1).
 pub const PARTITION_PREFIX: [u8; 13] = *b"\x06\x0e\x2b\x34\x02\x05\x01\x01\x0d\x01\x02\x01\x01";
-
-// The primer pack (ST 377-1).
-pub const PRIMER: [u8; 16] = *b"\x06\x0e\x2b\x34\x02\x05\x01\x01\x0d\x01\x02\x01\x01\x05\x01\x00";
 
 // Whether the first is a beginning of the second.
 pub fn begins(l: &[u8], k: &[u8]) -> bool
@@ -30,8 +27,8 @@ pub fn begins(l: &[u8], k: &[u8]) -> bool
     true
 }
 
-// Whether two labels have 16 bytes each and agree in all but those at three places. No branch on a byte but the one between the
-// halves, so that eight are compared at once: where one of all 16 is left out, the compiler gathers the others one by one.
+// Whether two labels have 16 bytes each and agree in all but those at three places. The one branch on their bytes stands
+// between the halves: the compiler compares the eight of a half at once, which it does not do for all 16.
 pub fn agree_but(a: &[u8], b: &[u8], x: usize, y: usize, z: usize) -> bool
     ensures { λ r. ⌜ r ≡ agreeBut x y z (now (a .entry)) (now (b .entry)) ⌝ }
 {

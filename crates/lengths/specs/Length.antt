@@ -1,4 +1,4 @@
--- The length that stands at a place: document 01, "Lengths and labels".
+-- The length that stands at a place: docs/RULES.md, "Lengths and labels".
 use Prim.Native.Nat.{ℕ, _+_, _-_}
 use mathlib.Core.List.{List}
 use mathlib.Core.Bool.{cond}

@@ -1,9 +1,9 @@
-// Lengths: document 01, "Lengths and labels". First length byte below 80h: that number, 1 byte. 80h: length 0, 1 byte.
+// Lengths: docs/RULES.md, "Lengths and labels". First length byte below 80h: that number, 1 byte. 80h: length 0, 1 byte.
 // 81h to 88h: that many more bytes hold it. 89h and above: no length. Bytes missing: cut.
 ghost use mathlib.Core.Path.{_≡_};
 ghost use Rattle.lengths.specs.Length.{lengthAt, twoBytesAt};
 use parts::number;
-use parts::wide;
+use parts::u64_of;
 
 // A length: its value, and how many bytes it took.
 pub struct Field {
@@ -30,7 +30,7 @@ pub fn read(s: &[u8], at: usize) -> Length
     let first = s[at];
     if first < 0x80 {
         return Length::Is(Field {
-            value: wide(first),
+            value: u64_of(first),
             size: 1,
         });
     }

@@ -19,7 +19,7 @@ use Rattle.text.specs.Write.{decimalOf, hexOf, Put}
 use Rattle.text.proofs.Sizes.{length-decimal, length-hex, put-whole}
 use Rattle.klv_text.specs.Text.{itemText}
 use Rattle.tally_text.specs.Groups.{groupText, eachGroup, groupsText}
-use Rattle.listing.specs.Listing.{recordLines, countLine, otherLine, tallyLines, listingOf}
+use Rattle.listing.specs.Listing.{recordLines, countLine, otherLine, tallyLines, listingOf, printed}
 
 label-length : (s : List ℕ) (p : ℕ) → length (hexOf (labelAt s p)) ≤ 32
 label-length s p = omega (arith, length-hex (labelAt s p), length-take 16 (drop p s))
@@ -85,6 +85,8 @@ fits s h =
       other-length (g .other),
     ))
 
--- so where there is that much room, the whole text stands there
-pub whole : (s : List ℕ) {o₀ o : List ℕ} {r : ℕ} → length s ≤ 65536 → 393216 ≤ length o₀ → Put (listingOf s) o₀ 0 o r → take r o ≡ listingOf s
-whole s {o₀} h m p = put-whole p (omega (arith, fits s h)) .1
+-- so where there is that much room, what is printed stands there whole
+pub whole : (s : List ℕ) (more : Bool) {o₀ o : List ℕ} {r : ℕ} → length s ≤ 65536 → 393216 ≤ length o₀ → Put (printed s more) o₀ 0 o r → take r o ≡ printed s more
+unfolding printed
+whole s true {o₀} h m p = put-whole p (omega arith) .1
+whole s false {o₀} h m p = put-whole p (omega (arith, fits s h)) .1

@@ -1,7 +1,7 @@
--- The listing's text: document 01, "Tally and listing".
+-- The listing's text: docs/RULES.md, "Tally and listing".
 use Prim.Native.Nat.{ℕ}
 use mathlib.Core.List.{List, [], _∷_, _++_}
-use mathlib.Core.Bool.{cond}
+use mathlib.Core.Bool.{Bool, cond}
 use lib.Dec.{eqb}
 use lib.ListN.{length}
 use Rattle.klv.specs.Item.{Item}
@@ -31,3 +31,11 @@ tallyLines s g = groupsText (108 ∷ 97 ∷ 98 ∷ 101 ∷ 108 ∷ 32 ∷ []) 32
 -- the whole text for s
 unfoldable pub listingOf : List ℕ → List ℕ
 listingOf s = recordLines (finished s) ++ countLine (length (finished s)) ++ tallyLines s (groupsOf s)
+
+-- `too long`
+abbrev pub tooLong : List ℕ
+tooLong = 116 ∷ 111 ∷ 111 ∷ 32 ∷ 108 ∷ 111 ∷ 110 ∷ 103 ∷ 10 ∷ []
+
+-- what the program prints, by the bytes that it has room for and whether there are more behind them
+unfoldable pub printed : List ℕ → Bool → List ℕ
+printed s more = cond more tooLong (listingOf s)

@@ -1,11 +1,11 @@
-// The listing's text: document 01, "Tally and listing". A line for each record of the finished walk, their count, a line for
+// The listing's text: docs/RULES.md, "Tally and listing". A line for each record of the finished walk, their count, a line for
 // each group of the tally, and how many are other.
 ghost use mathlib.Core.Path.{_≡_};
 ghost use lib.ListN.{length};
 ghost use Rattle.text.specs.Write.{Put};
 ghost use Rattle.records.specs.Records.{finished};
 ghost use Rattle.tally.specs.Groups.{groupsOf};
-ghost use Rattle.listing.specs.Listing.{recordLines, countLine, otherLine, tallyLines, listingOf};
+ghost use Rattle.listing.specs.Listing.{recordLines, countLine, otherLine, tallyLines, listingOf, printed};
 use klv_text::put_klv;
 use text::put_all;
 use text::put_byte;
@@ -79,4 +79,15 @@ pub fn list(out: &mut [u8], s: &[u8]) -> usize
     let l = put_records(out, 0, s);
     let a = put_count(out, l.at, l.records);
     put_tally(out, a, s)
+}
+
+// Puts what the program prints at the start of out: the listing of the bytes s that it read, or `too long` where there are
+// more behind them.
+pub fn print(out: &mut [u8], s: &[u8], more: bool) -> usize
+    ensures { λ r. ⌜ Put (printed (now (s .entry)) more) (now (out .entry)) 0 (now (out .exit)) r ⌝ }
+{
+    if more {
+        return put_all(out, 0, b"too long\n");
+    }
+    list(out, s)
 }

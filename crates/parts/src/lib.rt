@@ -1,9 +1,9 @@
 // The bytes at a place: a part of the buffer, cut to what is there, and the number that bytes hold.
-// Document 01: "numbers are big-endian"; "`vec![0; length]`: parts of the buffer".
+// docs/RULES.md: "numbers are big-endian"; "`vec![0; length]`: parts of the buffer".
 ghost use mathlib.Core.Path.{_≡_};
 ghost use Prim.Native.Nat.{_-_, _%_, _^_, min};
 ghost use lib.ListN.{take, drop};
-ghost use Rattle.parts.specs.Number.{numberOf};
+ghost use Rattle.parts.specs.Number.{numberOf, oneAt, twoAt, fourAt};
 
 // The smaller of two.
 pub fn lesser(a: usize, b: usize) -> usize
@@ -13,7 +13,7 @@ pub fn lesser(a: usize, b: usize) -> usize
 }
 
 // a - b, or 0 where b is the larger.
-pub fn less(a: usize, b: usize) -> usize
+pub fn saturating_sub(a: usize, b: usize) -> usize
     ensures { λ r. ⌜ r ≡ a - b ⌝ }
 {
     if b <= a { a - b } else { 0 }
@@ -28,8 +28,8 @@ pub fn part(s: &[u8], at: usize, len: usize) -> &[u8]
     &s[start..end]
 }
 
-// A byte as a wider number.
-pub fn wide(b: u8) -> u64
+// A byte as a u64.
+pub fn u64_of(b: u8) -> u64
     ensures { λ r. ⌜ r ≡ b ⌝ }
 {
     b as u64
@@ -42,7 +42,7 @@ pub fn number(s: &[u8]) -> u64
     let mut value: u64 = 0;
     let mut i = 0;
     while i < s.len() {
-        value = value % 0x100_0000_0000_0000 * 256 + wide(s[i]);
+        value = value % 0x100_0000_0000_0000 * 256 + u64_of(s[i]);
         i += 1;
     }
     value
@@ -55,16 +55,23 @@ pub fn number_at(s: &[u8], at: usize, n: usize) -> u64
     number(part(s, at, n))
 }
 
+// The byte at a place, or 0 where none is there.
+pub fn one_at(s: &[u8], at: usize) -> u8
+    ensures { λ r. ⌜ r ≡ oneAt (now (s .entry)) at ⌝ }
+{
+    number_at(s, at, 1) as u8
+}
+
 // The number that the two bytes at a place hold: as many of them as are there.
 pub fn two_at(s: &[u8], at: usize) -> u16
-    ensures { λ r. ⌜ r ≡ numberOf (take 2 (drop at (now (s .entry)))) ⌝ }
+    ensures { λ r. ⌜ r ≡ twoAt (now (s .entry)) at ⌝ }
 {
     number_at(s, at, 2) as u16
 }
 
 // The number that the four bytes at a place hold: as many of them as are there.
 pub fn four_at(s: &[u8], at: usize) -> u32
-    ensures { λ r. ⌜ r ≡ numberOf (take 4 (drop at (now (s .entry)))) ⌝ }
+    ensures { λ r. ⌜ r ≡ fourAt (now (s .entry)) at ⌝ }
 {
     number_at(s, at, 4) as u32
 }

@@ -1,12 +1,12 @@
-// The primer: document 01, "Primer: bytes 4..8 must be 18, else it is empty; the count is ignored; entries of 18 from 8,
-// a partial last one dropped; the last of equal tags wins." Nothing is reserved, whatever the count or a length says: the
+// The primer: docs/RULES.md, "Tables inside values". Bytes 4..8 must be 18, else it is empty; the count is ignored; entries of 18 from 8,
+// a partial last one dropped; the last of equal tags wins. Nothing is reserved, whatever the count or a length says: the
 // search is of the lent bytes.
 ghost use mathlib.Core.Path.{_≡_};
 ghost use Prim.Native.Nat.{_+_, _≤_};
 ghost use lib.ListN.{length};
 ghost use lib.Dec.{eqb};
 ghost use Rattle.parts.specs.Number.{numberAt};
-ghost use Rattle.primer.specs.Primer.{entryOf};
+ghost use Rattle.primer.specs.Primer.{told, entryOf};
 use parts::number;
 
 // What the primer has for a tag.
@@ -27,7 +27,7 @@ fn has(s: &[u8], at: usize, tag: u64) -> bool
 
 // The label of a local tag, in the primer's value: the last of equal tags is the first that is met from the end.
 pub fn find(s: &[u8], tag: u64) -> Entry
-    ensures { λ r. ⌜ r ≡ entryOf (now (s .entry)) tag ⌝ }
+    ensures { λ r. ⌜ told r ≡ entryOf (now (s .entry)) tag ⌝ }
 {
     if s.len() < 8 {
         return Entry::Nothing;

@@ -1,4 +1,4 @@
--- The search for a key's start: document 01, "The walk", rule 2, and "The arriving walk".
+-- The search for a key's start: docs/RULES.md, "The walk", rule 2, and "The arriving walk".
 use Prim.Native.Nat.{ℕ, zero, suc, _+_, _-_, _≤_, min}
 use mathlib.Core.Path.{_≡_}
 use mathlib.Core.List.{List}

@@ -1,4 +1,4 @@
-// The search for 06 0e 2b 34, and where a search waits that finds none: document 01, "The walk", rule 2, and "The
+// The search for 06 0e 2b 34, and where a search waits that finds none: docs/RULES.md, "The walk", rule 2, and "The
 // arriving walk".
 ghost use mathlib.Core.Path.{_≡_};
 ghost use mathlib.Core.Bool.{true, false};

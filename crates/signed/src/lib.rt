@@ -1,7 +1,5 @@
-// Signed reads: a number that was read as unsigned bits, as the signed number that a file means by them.
-//
-// Document 01: "angles at E0h and E4h are the low 16 bits, signed, over 10"; "tags 1501h and 1201h are signed". In `of_alexa35` the
-// whole numbers are signed, and in Canon's packs a value lies around 80h or 8000h.
+// Signed reads: bits that were read as an unsigned number, as the signed number that a file means by them. Angles, Canon's
+// positions and the ALEXA 35's whole numbers are signed; in Canon's packs a value counts from 80h or 8000h.
 ghost use mathlib.Core.Path.{_≡_};
 ghost use Rattle.signed.specs.Signed.{signedBits, around};
 
@@ -13,17 +11,6 @@ pub fn signed16(v: u16) -> i16
         v as i16
     } else {
         -1 - ((65535 - v) as i16)
-    }
-}
-
-// The 32 bits of v as a signed number.
-pub fn signed32(v: u32) -> i32
-    ensures { λ r. ⌜ r ≡ signedBits 32 v ⌝ }
-{
-    if v < 2147483648 {
-        v as i32
-    } else {
-        -1 - ((4294967295 - v) as i32)
     }
 }
 

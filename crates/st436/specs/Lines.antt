@@ -1,4 +1,4 @@
--- The lines of an ST 436 element: document 01, "Tables inside values", ST 436.
+-- The lines of an ST 436 element: docs/RULES.md, "Tables inside values", ST 436.
 use Prim.Native.Nat.{ℕ, zero, suc, _+_, _-_, min}
 use mathlib.Core.List.{List}
 use mathlib.Core.Bool.{Bool, cond, _&&_, _||_}

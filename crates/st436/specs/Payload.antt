@@ -22,7 +22,7 @@ payloadFrom s left p = bytesOf s (atMost (lineAt s) left p)
 unfoldable pub payloadOf : List ℕ → List ℕ
 payloadOf s = payloadFrom s (lineCount s) 2
 
--- by document 01's numbers: 0 with the payload's length, or 3 with the length needed where the output is shorter
+-- by the numbers of docs/RULES.md: 0 with the payload's length, or 3 with the length needed where the output is shorter
 unfoldable pub payloadSaid : List ℕ → ℕ → ℕ × ℕ
 payloadSaid s room = cond (leb (length (payloadOf s)) room) (0, length (payloadOf s)) (3, length (payloadOf s))
 

@@ -1,4 +1,4 @@
--- What this crate's answers say, each case by document 01's number and values.
+-- What this crate's answers say, each case by the number and values of docs/RULES.md.
 use Prim.Native.Nat.{ℕ}
 use mathlib.Core.List.{List}
 use Rattle.steps.specs.Told.{Told, found, nothing}

@@ -1,7 +1,7 @@
-// ST 436: document 01, "count of 2 bytes, then lines: header 14, with sample count at 4, array count at 6, array length at
-// 10. Array length must be 1 unless array count is 0. The array is cut to the sample count; if it then has at least 4 bytes
-// and begins 43 05, the bytes from 4 are payload. The first bad line ends it. The payload is never longer than the element."
-// A host that wants no copy steps over the lines, and takes each one's part of the element.
+// ST 436: docs/RULES.md, "Tables inside values". A count of 2 bytes, then lines: a header of 14 with the sample count at 4, the
+// array count at 6 and the array length at 10. The array length must be 1 unless the array count is 0. The array is cut to
+// the sample count; if it then has at least 4 bytes and begins 43 05, the bytes from 4 are payload. The first bad line ends
+// it. A host that wants no copy steps over the lines, and takes each one's part of the element.
 ghost use mathlib.Core.Path.{_≡_};
 ghost use Prim.Native.Nat.{_+_, _≤_, _<_};
 ghost use lib.ListN.{length, take, drop};

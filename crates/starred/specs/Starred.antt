@@ -1,11 +1,14 @@
--- The starred numbers of document 01, "Numbers on both sides", together.
+-- The starred numbers of docs/RULES.md, "Numbers on both sides", together.
 use Prim.Native.Nat.{ℕ, _-_, _^_, _<_}
 use mathlib.Core.Path.{_≡_}
 use mathlib.Core.List.{List, [], _∷_, _++_}
+use mathlib.Core.Bool.{Bool, true, false}
 use lib.ListN.{length, replicate}
+use lib.Ieee.{Float}
 use Rattle.steps.specs.Told.{nothing}
 use Rattle.lengths.specs.declared.Length.the-variants.{Is, Cut, None}
 use Rattle.lengths.specs.Length.{field, lengthAt}
+use Rattle.labels.specs.Label.{keyAt}
 use Rattle.klv.specs.Item.{item}
 use Rattle.walk.specs.declared.Turn.the-variants.{Search}
 use Rattle.walk.specs.Rules.{rules}
@@ -14,10 +17,13 @@ use Rattle.records.specs.Records.{finished}
 use Rattle.canon_values.specs.declared.Value.the-variants.{Close}
 use Rattle.canon_values.specs.Values.{aperture}
 use Rattle.floats.specs.Rounding.{nearestF32}
-use Rattle.floats.specs.Quotients.{thousandthsF32, metresOfMillimetres}
 use Rattle.floats.specs.Near.{IsWhole, Near}
+use Rattle.frame_values.specs.declared.Distance.{Distance}
+use Rattle.frame_values.specs.declared.Distance.the-variants.{Metres}
+use Rattle.arri_mini.specs.Dynamic as mini
+use Rattle.arri_alexa35_items.specs.Kinds as alexa35
 
--- a key: the label of document 01's listing
+-- a key: the label of the rules' listing
 abbrev pub key : List ℕ
 key = 0x06 ∷ 0x0e ∷ 0x2b ∷ 0x34 ∷ 0x01 ∷ 0x01 ∷ 0x01 ∷ 0x0d ∷ 0x0e ∷ 0x15 ∷ 0x00 ∷ 0x01 ∷ 0x00 ∷ 0x01 ∷ 0x00 ∷ 0x00 ∷ []
 
@@ -32,11 +38,11 @@ Lengths =
     × (lengthAt (0x89 ∷ []) 0 ≡ None)
     × (lengthAt (0x81 ∷ []) 0 ≡ Cut)
 
--- 16 bytes: no record. 17, a key and `00`: one. A key and `01`, no more: none when finished
+-- 16 bytes: no record. 17, a key and `00`: one, whatever the key's other bytes. A key and `01`, no more: none when finished
 abbrev pub Finished : Type 0
 Finished =
     ((s : List ℕ) → length s ≡ 16 → finished s ≡ [])
-    × (finished (key ++ (0x00 ∷ [])) ≡ item 16 key (record { at = 0; value = 17; len = 0 }) ∷ [])
+    × ((k : List ℕ) → length k ≡ 16 → keyAt k 0 ≡ true → finished (k ++ (0x00 ∷ [])) ≡ item 16 k (record { at = 0; value = 17; len = 0 }) ∷ [])
     × (finished (key ++ (0x01 ∷ [])) ≡ [])
 
 -- when arriving, it waits at limit 18, and at limit 17 searches
@@ -46,19 +52,24 @@ Arriving =
     × (rules 17 (key ++ (0x01 ∷ [])) 17 0 ≡ Search 17)
     × (arrivingStep 17 (key ++ (0x01 ∷ [])) 0 ≡ nothing 17)
 
--- u32 to f32: 16,777,217 to 16,777,216; 16,777,219 to 16,777,220; within 128 for every u32. 1000 thousandths is 1.0, divided in f32 or
--- multiplied in f64
+-- u32 to f32: 16,777,217 to 16,777,216; 16,777,219 to 16,777,220; within 128 for every u32
 abbrev pub Floats : Type 0
 Floats =
     ((v : ℕ) → v < 2 ^ 32 → Near 128 (nearestF32 v) v)
     × IsWhole (nearestF32 16777217) 16777216
     × IsWhole (nearestF32 16777219) 16777220
-    × IsWhole (thousandthsF32 1000) 1
-    × IsWhole (metresOfMillimetres 1000) 1
+
+-- a distance is 1.0
+abbrev pub OneMetre : Distance → Type 0
+OneMetre d = (x : Float) × (d ≡ Metres x) × IsWhole x 1
+
+-- 1000 thousandths is 1.0: the ALEXA Mini's distance, whether its lens has other data or not, and the ALEXA 35's metric one
+abbrev pub Distances : Type 0
+Distances = ((lens : Bool) → OneMetre (mini.distanceOf lens 1000)) × OneMetre (alexa35.distanceOf false 1000)
 
 -- apertures: (0, 65534) closed
 abbrev pub Apertures : Type 0
 Apertures = aperture 0 65534 ≡ Close
 
 abbrev pub Starred : Type 0
-Starred = Lengths × Finished × Arriving × Floats × Apertures
+Starred = Lengths × Finished × Arriving × Floats × Distances × Apertures

@@ -1,4 +1,4 @@
--- The tally: document 01, "Tally and listing". It groups records by same label, in order of first appearance, at most 64
+-- The tally: docs/RULES.md, "Tally and listing". It groups records by same label, in order of first appearance, at most 64
 -- groups; records that fit none of these count as other.
 use Prim.Native.Nat.{ℕ, zero, suc, _+_}
 use mathlib.Core.List.{List, [], _∷_, _++_, map}

@@ -1,4 +1,4 @@
-// The tally: document 01, "Tally and listing". It groups records by same label, in order of first appearance, at most 64
+// The tally: docs/RULES.md, "Tally and listing". It groups records by same label, in order of first appearance, at most 64
 // groups; records that fit none of these count as other.
 ghost use mathlib.Core.Path.{_≡_};
 ghost use Prim.Native.Nat.{_+_, _≤_, _<_};

@@ -1,4 +1,4 @@
-// The groups of a tally as text, as the listing and the answers have them: `label 060e2b340101010d0e15000100010000 2` is a
+// The groups of a tally as text, as the listing has them: `label 060e2b340101010d0e15000100010000 2` is a
 // group of two records.
 ghost use mathlib.Core.Path.{_≡_};
 ghost use lib.ListN.{length};

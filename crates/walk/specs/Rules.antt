@@ -1,4 +1,4 @@
--- The walk's rules at one place: document 01, "The walk", 1 to 4.
+-- The walk's rules at one place: docs/RULES.md, "The walk", 1 to 4.
 use Prim.Native.Nat.{ℕ, _+_, _-_}
 use mathlib.Core.List.{List}
 use mathlib.Core.Bool.{cond}

@@ -1,4 +1,4 @@
--- What the steps' answers say, each case by document 01's number and values; p is the cursor that the step was given.
+-- What the steps' answers say, each case by the number and values of docs/RULES.md; p is the cursor that the step was given.
 use Prim.Native.Nat.{ℕ}
 use mathlib.Core.List.{List}
 use Rattle.steps.specs.Told.{Told, found, nothing, refused}

@@ -1,4 +1,4 @@
--- The steps of the two walks: document 01, "The walk".
+-- The steps of the two walks: docs/RULES.md, "The walk".
 use Prim.Native.Nat.{ℕ, zero, suc, _-_, max}
 use mathlib.Core.List.{List}
 use mathlib.Core.Bool.{cond}

@@ -1,4 +1,4 @@
-// The walk over the KLVs of a buffer: document 01, "The walk". A finished walk has a buffer and an end; the arriving walk
+// The walk over the KLVs of a buffer: docs/RULES.md, "The walk". A finished walk has a buffer and an end; the arriving walk
 // has the bytes that have arrived and a limit. Both are these rules at a place, and a search between places.
 ghost use mathlib.Core.Path.{_≡_};
 ghost use Prim.Native.Nat.{_≤_, max};
@@ -8,7 +8,7 @@ ghost use Rattle.walk.specs.Walk.{walked, finishedStep, arrivingStep};
 ghost use Rattle.walk.specs.Told.{stepTold, arrivedTold};
 use klv::Klv;
 use lengths::Length;
-use parts::less;
+use parts::saturating_sub;
 
 // The larger of two.
 fn larger(a: usize, b: usize) -> usize
@@ -51,14 +51,14 @@ fn look(s: &[u8], end: usize, limit: usize, p: usize) -> Turn
     };
     let v = p + 16 + f.size;
     let n = f.value;
-    if n <= less(end, v) as u64 {
+    if n <= saturating_sub(end, v) as u64 {
         return Turn::Record(Klv {
             at: p,
             value: v,
             len: n as usize,
         });
     }
-    if n <= less(limit, v) as u64 {
+    if n <= saturating_sub(limit, v) as u64 {
         return Turn::Stop;
     }
     Turn::Search(v)

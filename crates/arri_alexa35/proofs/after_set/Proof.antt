@@ -13,7 +13,8 @@ use Rattle.items.proofs.From.{run-item, run-end}
 use Rattle.arri_alexa35_items.specs.Kinds.{numberIn}
 use Rattle.arri_alexa35_values.specs.Said.{said}
 use Rattle.arri_alexa35_values.specs.Values.{valuesOn}
-use Rattle.arri_alexa35.specs.Items.{inSet, after}
+use Rattle.items.specs.After.{after}
+use Rattle.arri_alexa35.specs.Items.{inSet}
 use Rattle.arri_alexa35.proofs.Laws.{setFrom, set-end, set-more}
 use borrow.Author.Needs.{needs}
 use Rattle.arri_alexa35.proofs.after_set.Statement.{statement}

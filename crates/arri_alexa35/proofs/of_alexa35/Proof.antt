@@ -12,7 +12,8 @@ use Rattle.items.specs.Items.{itemStep, runOf}
 use Rattle.items.proofs.Laws.{item-fits}
 use Rattle.items.proofs.From.{run-item, run-end}
 use Rattle.arri_alexa35_values.specs.Values.{valuesOn, none, frameOf}
-use Rattle.arri_alexa35.specs.Items.{inSet, saidIn, after}
+use Rattle.items.specs.After.{after}
+use Rattle.arri_alexa35.specs.Items.{inSet, saidIn}
 use Rattle.arri_alexa35.proofs.Table.{table}
 use Rattle.arri_alexa35.proofs.Laws.{setsFrom, sets-end, sets-more}
 use borrow.Author.Needs.{needs}

@@ -7,16 +7,16 @@ use Rattle.arri_alexa35_items.proofs.effective_in.Tie as tie
 positive-in-requires : tie.Need-positive-in-requires
 positive-in-requires c κs = search needs
 
-u32-at-requires : tie.Need-u32-at-requires
-u32-at-requires c κs = search needs
+four-at-requires : tie.Need-four-at-requires
+four-at-requires c κs = search needs
 
 double-thousandths-requires : tie.Need-double-thousandths-requires
 double-thousandths-requires c κs = search needs
 
 returns : tie.Need-returns
 unfolding effectiveIn
-returns c = rw (c .double-thousandths .ensures, c .before .u32-at .ensures, c .before .before .positive-in .ensures)
+returns c = rw (c .double-thousandths .ensures, c .before .four-at .ensures, c .before .before .positive-in .ensures)
 
 pub effective-in-spec : {M : Type 1} → statement M
 effective-in-spec =
-    tie.close (tie.spec positive-in-requires u32-at-requires double-thousandths-requires returns)
+    tie.close (tie.spec positive-in-requires four-at-requires double-thousandths-requires returns)

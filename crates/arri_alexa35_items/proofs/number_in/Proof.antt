@@ -1,12 +1,7 @@
--- `arri_alexa35_items::number_in` meets its contract: the branches are the definition's, and two bytes hold a number that fits.
-use Prim.Native.Nat.{ℕ, _%_, _^_}
-use mathlib.Core.List.{List}
+-- `arri_alexa35_items::number_in` meets its contract: the branches are the definition's.
 use mathlib.Core.Path.{_≡_, _∙_, ap, sym}
-use native.Mathlib.Omega.{arith}
 use denote.Ref.{now}
 use lib.ListN.{take, drop}
-use Rattle.parts.specs.Number.{numberOf}
-use Rattle.parts.proofs.Cut.{part-whole}
 use Rattle.labels.specs.Label.{beginning, keyStart}
 use Rattle.arri_alexa35_items.specs.Kinds.{numberIn, arriItems}
 use borrow.Author.Needs.{needs}
@@ -34,21 +29,17 @@ part-requires c κs = search needs
 begins-requires-2 : tie.Need-begins-requires-2
 begins-requires-2 c κs = search needs
 
-part-requires-2 : tie.Need-part-requires-2
-part-requires-2 c κs = search needs
+two-at-requires : tie.Need-two-at-requires
+two-at-requires c κs = search needs
 
-number-requires : tie.Need-number-requires
-number-requires c κs = search needs
+cast-result : tie.Need-cast-result
+cast-result c = search needs
 
 returns : tie.Need-returns
 unfolding numberIn
 returns c =
-    let a = c .before .before .before .before in
-    let z = a .before .before .before .before .before .before in
-    let number : c .number .result ≡ numberOf (take 2 (drop 12 (now (z .args .key)))) =
-    c .number .ensures ∙ ap (λ (l : List ℕ). numberOf l % 2 ^ 64) (c .before .part2 .ensures)
-    ∙ part-whole (now (z .args .key)) 12 2 (λ i. a .before .before .before .before .before .shared-slice-known .given i .fits) (omega arith) in
-    simp (sym (is-key (a .before .before .before)) ∙ a .before .before .if1 .taken, sym (is-item (c .before .before .before)) ∙ c .before .before .if2 .taken, number)
+    let a = c .before .before .before in
+    simp (sym (is-key (a .before .before .before)) ∙ a .before .before .if1 .taken, sym (is-item (c .before .before)) ∙ c .before .if2 .taken, c .two-at .ensures)
 
 returns-2 : tie.Need-returns-2
 unfolding numberIn
@@ -69,8 +60,8 @@ number-in-spec =
     slice-aggregate-begins-2
     part-requires
     begins-requires-2
-    part-requires-2
-    number-requires
+    two-at-requires
+    cast-result
     returns
     returns-2
     returns-3)

@@ -4,15 +4,15 @@ use borrow.Author.Needs.{needs}
 use Rattle.arri_alexa35_items.proofs.positive_in.Statement.{statement}
 use Rattle.arri_alexa35_items.proofs.positive_in.Tie as tie
 
-u32-at-requires : tie.Need-u32-at-requires
-u32-at-requires c κs = search needs
+four-at-requires : tie.Need-four-at-requires
+four-at-requires c κs = search needs
 
 positive-requires : tie.Need-positive-requires
 positive-requires c κs = search needs
 
 returns : tie.Need-returns
 unfolding positiveIn
-returns c = rw (c .positive .ensures, c .before .u32-at .ensures)
+returns c = rw (c .positive .ensures, c .before .four-at .ensures)
 
 pub positive-in-spec : {M : Type 1} → statement M
-positive-in-spec = tie.close (tie.spec u32-at-requires positive-requires returns)
+positive-in-spec = tie.close (tie.spec four-at-requires positive-requires returns)

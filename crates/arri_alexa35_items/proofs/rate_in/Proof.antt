@@ -7,18 +7,18 @@ use Rattle.arri_alexa35_items.proofs.rate_in.Tie as tie
 rational-in-requires : tie.Need-rational-in-requires
 rational-in-requires c κs = search needs
 
-u32-at-requires : tie.Need-u32-at-requires
-u32-at-requires c κs = search needs
+four-at-requires : tie.Need-four-at-requires
+four-at-requires c κs = search needs
 
-u32-at-requires-2 : tie.Need-u32-at-requires-2
-u32-at-requires-2 c κs = search needs
+four-at-requires-2 : tie.Need-four-at-requires-2
+four-at-requires-2 c κs = search needs
 
 ratio-requires : tie.Need-ratio-requires
 ratio-requires c κs = search needs
 
 returns : tie.Need-returns
 unfolding rateIn
-returns c = simp (← c .before .before .before .before .rational-in .ensures, c .before .before .before .if1 .taken, c .ratio .ensures, c .before .before .u32-at .ensures, c .before .u32-at2 .ensures)
+returns c = simp (← c .before .before .before .before .rational-in .ensures, c .before .before .before .if1 .taken, c .ratio .ensures, c .before .before .four-at .ensures, c .before .four-at2 .ensures)
 
 returns-2 : tie.Need-returns-2
 unfolding rateIn
@@ -29,8 +29,8 @@ rate-in-spec =
     tie.close
     (tie.spec
     rational-in-requires
-    u32-at-requires
-    u32-at-requires-2
+    four-at-requires
+    four-at-requires-2
     ratio-requires
     returns
     returns-2)

@@ -4,12 +4,12 @@ use borrow.Author.Needs.{needs}
 use Rattle.arri_alexa35_items.proofs.rational_in.Statement.{statement}
 use Rattle.arri_alexa35_items.proofs.rational_in.Tie as tie
 
-u32-at-requires : tie.Need-u32-at-requires
-u32-at-requires c κs = search needs
+four-at-requires : tie.Need-four-at-requires
+four-at-requires c κs = search needs
 
 returns : tie.Need-returns
 unfolding rationalIn
-returns c = rw (c .u32-at .ensures)
+returns c = rw (c .four-at .ensures)
 
 pub rational-in-spec : {M : Type 1} → statement M
-rational-in-spec = tie.close (tie.spec u32-at-requires returns)
+rational-in-spec = tie.close (tie.spec four-at-requires returns)

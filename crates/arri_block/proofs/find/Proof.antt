@@ -1,16 +1,16 @@
 -- `arri_block::find` meets its contract. The loop's invariant: the items from the cursor on give what the whole gives.
 use Prim.Native.Nat.{_-_}
 use mathlib.Core.Bool.{false}
-use mathlib.Core.Path.{_≡_, refl, sym, _∙_}
+use mathlib.Core.Path.{_≡_, refl, sym, ap, _∙_}
 use native.Mathlib.Omega.{arith}
 use denote.Ref.{now}
 use lib.ListN.{length}
 use Rattle.steps.specs.Told.{found}
 use Rattle.klv.specs.Item.{item}
 use Rattle.items.specs.Items.{itemStep, itemsOf}
-use Rattle.items.proofs.From.{itemsFrom, held-item, held-end}
+use Rattle.items.proofs.From.{itemsFrom, local-item, local-end}
 use Rattle.items.proofs.Laws.{item-fits}
-use Rattle.arri_block.specs.Block.{firstOf, inElementItem, blockOf}
+use Rattle.arri_block.specs.Block.{told, firstOf, inElementItem, blockOf}
 use Rattle.arri_block.proofs.Laws.{first-end, first-hit, first-passed}
 use borrow.Author.Needs.{needs}
 use Rattle.arri_block.proofs.find.Statement.{statement}
@@ -26,7 +26,7 @@ abbrev μ-loop : tie.MeasureT-loop
 is-found : (k : tie.After-step2 Inv-loop μ-loop)
     → itemStep 1 false (now (k .before .before .before .before .before .args .element)) (k .before .before .before .loop .at)
     ≡ found (item 1 (now (k .before .before .before .before .before .args .element)) (k .step2 .given .0 .0)) (k .step2 .given .0 .1 .0 .at)
-is-found k = held-item 1 false _ _ _ (k .before .before .step .ensures) _ _ (k .step2 .given .1)
+is-found k = local-item 1 false _ _ _ (k .before .before .step .ensures) _ _ (k .step2 .given .1)
 
 loop-holds : tie.Need-loop-holds Inv-loop μ-loop
 unfolding blockOf itemsOf
@@ -44,7 +44,7 @@ enum-told c = search needs
 returns : tie.Need-returns Inv-loop μ-loop
 returns c =
     let l = c .before .before .before in
-    sym (first-end 1 false _ _ _ (held-end 1 false _ _ _ (c .before .before .step .ensures) (c .enum-told .given .1))) ∙ l .loop .inv
+    sym (first-end 1 false _ _ _ (local-end 1 false _ _ _ (c .before .before .step .ensures) (c .enum-told .given .1))) ∙ l .loop .inv
 
 in-element-item-requires : tie.Need-in-element-item-requires Inv-loop μ-loop
 in-element-item-requires c κs = omega (arith, item-fits 1 false _ _ _ _ (is-found (c .before)))
@@ -55,7 +55,7 @@ enum-told-2 c = search needs
 returns-2 : tie.Need-returns-2 Inv-loop μ-loop
 returns-2 c =
     let k = c .before .before .before .before in
-    c .before .before .in-element-item .ensures ∙ sym (first-hit 1 false _ _ _ _ (is-found k) _ _ (sym (c .before .before .in-element-item .ensures) ∙ c .enum-told2 .given .1)) ∙ k .before .before .before .loop .inv
+    c .before .before .in-element-item .ensures ∙ sym (first-hit 1 false _ _ _ _ (is-found k) _ _ (sym (c .before .before .in-element-item .ensures) ∙ ap told (c .enum-told2 .given .1))) ∙ k .before .before .before .loop .inv
 
 enum-told-3 : tie.Need-enum-told-3 Inv-loop μ-loop
 enum-told-3 c = search needs
@@ -66,7 +66,7 @@ loop-less c = omega (arith, item-fits 1 false _ _ _ _ (is-found (c .before .befo
 loop-again : tie.Need-loop-again Inv-loop μ-loop
 loop-again c =
     let k = c .before .before .before .before in
-    sym (first-passed 1 false _ _ _ _ (is-found k) _ (sym (c .before .before .in-element-item .ensures) ∙ c .enum-told3 .given .1)) ∙ k .before .before .before .loop .inv
+    sym (first-passed 1 false _ _ _ _ (is-found k) _ (sym (c .before .before .in-element-item .ensures) ∙ ap told (c .enum-told3 .given .1))) ∙ k .before .before .before .loop .inv
 
 pub find-spec : {M : Type 1} → statement M
 find-spec =

@@ -6,7 +6,8 @@ use native.Mathlib.Omega.{arith}
 use borrow.Author.Tests.{eq-eqb, ne-eqb}
 use denote.Ref.{now}
 use lib.ListN.{take, drop}
-use Rattle.arri_block.specs.Block.{placedAt, inRun, inElementItem}
+use Rattle.parts.specs.Number.{oneAt}
+use Rattle.arri_block.specs.Block.{told, placedAt, inRun, inElementItem}
 use Rattle.arri_block.proofs.Ending.{part-ends, run-ends}
 use borrow.Author.Needs.{needs}
 use Rattle.arri_block.proofs.in_element_item.Statement.{statement}
@@ -15,11 +16,11 @@ use Rattle.arri_block.proofs.in_element_item.Tie as tie
 abbrev part-of : tie.After-in-run → List ℕ
 part-of c = take (c .before .before .before .before .before .args .k .len) (drop (c .before .before .before .before .before .args .k .value) (now (c .before .before .before .before .before .args .s)))
 
-is-block : (c : tie.After-in-run) → c .in-run .result ≡ inRun (part-of c)
+is-block : (c : tie.After-in-run) → told (c .in-run .result) ≡ inRun (part-of c)
 is-block c = c .in-run .ensures ∙ ap inRun (c .before .bytes .ensures)
 
-tag-requires : tie.Need-tag-requires
-tag-requires c κs = search needs
+one-at-requires : tie.Need-one-at-requires
+one-at-requires c κs = search needs
 
 bytes-requires : tie.Need-bytes-requires
 bytes-requires c κs = search needs
@@ -33,14 +34,14 @@ placed-at-requires c κs = λ p e.
     omega (arith, part-ends (now (a .args .s)) (a .args .k .value) (a .args .k .len) _ (a .pre) (run-ends (part-of c)) p (ap (placedAt (a .args .k .value)) (sym (is-block c)) ∙ e))
 
 returns : tie.Need-returns
-unfolding inElementItem
-returns c = rw (c .placed-at .ensures, is-block (c .before)) (simp (eq-eqb _ _ (sym (c .before .before .before .before .tag .ensures) ∙ c .before .before .before .if1 .taken)))
+unfolding inElementItem oneAt
+returns c = c .placed-at .ensures ∙ rw (is-block (c .before)) (simp (eq-eqb _ _ (sym (c .before .before .before .before .one-at .ensures) ∙ c .before .before .before .if1 .taken)))
 
 returns-2 : tie.Need-returns-2
-unfolding inElementItem
-returns-2 c = simp (ne-eqb _ _ (λ e. c .if1 .left (c .before .tag .ensures ∙ e)))
+unfolding inElementItem oneAt
+returns-2 c = simp (ne-eqb _ _ (λ e. c .if1 .left (c .before .one-at .ensures ∙ e)))
 
 pub in-element-item-spec : {M : Type 1} → statement M
 in-element-item-spec =
     tie.close
-    (tie.spec tag-requires bytes-requires in-run-requires placed-at-requires returns returns-2)
+    (tie.spec one-at-requires bytes-requires in-run-requires placed-at-requires returns returns-2)

@@ -1,7 +1,7 @@
 -- `arri_block::in_run` meets its contract. The loop's invariant: the items from the cursor on give what the whole gives.
 use Prim.Native.Nat.{_-_}
 use mathlib.Core.Bool.{true}
-use mathlib.Core.Path.{_≡_, refl, sym, _∙_}
+use mathlib.Core.Path.{_≡_, refl, sym, ap, _∙_}
 use native.Mathlib.Omega.{arith}
 use denote.Ref.{now}
 use lib.ListN.{length}
@@ -10,7 +10,7 @@ use Rattle.klv.specs.Item.{item}
 use Rattle.items.specs.Items.{itemStep, runOf}
 use Rattle.items.proofs.From.{itemsFrom, run-item, run-end}
 use Rattle.items.proofs.Laws.{item-fits}
-use Rattle.arri_block.specs.Block.{firstOf, inRunItem, inRun}
+use Rattle.arri_block.specs.Block.{told, firstOf, inRunItem, inRun}
 use Rattle.arri_block.proofs.Laws.{first-end, first-hit, first-passed}
 use borrow.Author.Needs.{needs}
 use Rattle.arri_block.proofs.in_run.Statement.{statement}
@@ -55,7 +55,7 @@ enum-told-2 c = search needs
 returns-2 : tie.Need-returns-2 Inv-loop μ-loop
 returns-2 c =
     let k = c .before .before .before .before in
-    c .before .before .in-run-item .ensures ∙ sym (first-hit 16 true _ _ _ _ (is-found k) _ _ (sym (c .before .before .in-run-item .ensures) ∙ c .enum-told2 .given .1)) ∙ k .before .before .before .loop .inv
+    c .before .before .in-run-item .ensures ∙ sym (first-hit 16 true _ _ _ _ (is-found k) _ _ (sym (c .before .before .in-run-item .ensures) ∙ ap told (c .enum-told2 .given .1))) ∙ k .before .before .before .loop .inv
 
 enum-told-3 : tie.Need-enum-told-3 Inv-loop μ-loop
 enum-told-3 c = search needs
@@ -66,7 +66,7 @@ loop-less c = omega (arith, item-fits 16 true _ _ _ _ (is-found (c .before .befo
 loop-again : tie.Need-loop-again Inv-loop μ-loop
 loop-again c =
     let k = c .before .before .before .before in
-    sym (first-passed 16 true _ _ _ _ (is-found k) _ (sym (c .before .before .in-run-item .ensures) ∙ c .enum-told3 .given .1)) ∙ k .before .before .before .loop .inv
+    sym (first-passed 16 true _ _ _ _ (is-found k) _ (sym (c .before .before .in-run-item .ensures) ∙ ap told (c .enum-told3 .given .1))) ∙ k .before .before .before .loop .inv
 
 pub in-run-spec : {M : Type 1} → statement M
 in-run-spec =

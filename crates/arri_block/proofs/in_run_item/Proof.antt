@@ -6,7 +6,7 @@ use native.Mathlib.Omega.{arith}
 use denote.Ref.{now}
 use lib.ListN.{take, drop}
 use Rattle.labels.specs.Label.{sameLabel, labelAt}
-use Rattle.arri_block.specs.Block.{lensUnitSet, placedAt, inSet, inRunItem}
+use Rattle.arri_block.specs.Block.{told, lensUnitSet, placedAt, inSet, inRunItem}
 use Rattle.arri_block.proofs.Ending.{part-ends, set-ends}
 use borrow.Author.Needs.{needs}
 use Rattle.arri_block.proofs.in_run_item.Statement.{statement}
@@ -18,7 +18,7 @@ is-same c = c .same-label .ensures ∙ ap (λ (l : List ℕ). sameLabel l lensUn
 abbrev part-of : tie.After-in-set → List ℕ
 part-of c = take (c .before .before .before .before .before .before .before .args .k .len) (drop (c .before .before .before .before .before .before .before .args .k .value) (now (c .before .before .before .before .before .before .before .args .s)))
 
-is-block : (c : tie.After-in-set) → c .in-set .result ≡ inSet (part-of c)
+is-block : (c : tie.After-in-set) → told (c .in-set .result) ≡ inSet (part-of c)
 is-block c = c .in-set .ensures ∙ ap inSet (c .before .bytes .ensures)
 
 label-requires : tie.Need-label-requires
@@ -43,7 +43,7 @@ placed-at-requires c κs = λ p e.
 
 returns : tie.Need-returns
 unfolding inRunItem
-returns c = rw (c .placed-at .ensures, is-block (c .before)) (simp (sym (is-same (c .before .before .before .before)) ∙ c .before .before .before .if1 .taken))
+returns c = c .placed-at .ensures ∙ rw (is-block (c .before)) (simp (sym (is-same (c .before .before .before .before)) ∙ c .before .before .before .if1 .taken))
 
 returns-2 : tie.Need-returns-2
 unfolding inRunItem

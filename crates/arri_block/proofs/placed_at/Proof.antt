@@ -1,7 +1,8 @@
 -- `arri_block::placed_at` meets its contract: the block ends where a place still fits.
 use mathlib.Core.Path.{ap}
 use native.Mathlib.Omega.{arith}
-use Rattle.arri_block.specs.Block.{placedAt}
+use Rattle.arri_block.specs.declared.Block.{Block}
+use Rattle.arri_block.specs.Block.{told, placedAt}
 use borrow.Author.Needs.{needs}
 use Rattle.arri_block.proofs.placed_at.Statement.{statement}
 use Rattle.arri_block.proofs.placed_at.Tie as tie
@@ -18,7 +19,7 @@ returns c = rw (c .enum-told .given .1)
 
 add-at : tie.Need-add-at
 unfolding placedAt
-add-at c = omega (arith, c .before .before .before .pre _ (ap (placedAt (c .before .before .before .args .from)) (c .before .b .given .1)))
+add-at c = omega (arith, c .before .before .before .pre _ (ap (λ (b : Block). placedAt (c .before .before .before .args .from) (told b)) (c .before .b .given .1)))
 
 returns-2 : tie.Need-returns-2
 unfolding placedAt

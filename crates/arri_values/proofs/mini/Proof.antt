@@ -8,18 +8,18 @@ use Rattle.arri_values.proofs.mini.Tie as tie
 find-requires : tie.Need-find-requires
 find-requires c κs = search needs
 
-enum-known-b : tie.Need-enum-known-b
-enum-known-b c = search needs
-
 enum-told : tie.Need-enum-told
 enum-told c = search needs
 
+enum-told-2 : tie.Need-enum-told-2
+enum-told-2 c = search needs
+
 returns : tie.Need-returns
 unfolding ofBlock
-returns c = rw (sym (c .before .before .find .ensures) ∙ c .enum-told .given .1)
+returns c = rw (sym (c .before .before .find .ensures), c .enum-told2 .given .1)
 
-part-requires : tie.Need-part-requires
-part-requires c κs = search needs
+bytes-requires : tie.Need-bytes-requires
+bytes-requires c κs = search needs
 
 of-dynamic-requires : tie.Need-of-dynamic-requires
 of-dynamic-requires c κs = search needs
@@ -27,17 +27,17 @@ of-dynamic-requires c κs = search needs
 returns-2 : tie.Need-returns-2
 unfolding ofBlock
 returns-2 c =
-    let f = c .before .before .before .before .before in
-    rw (sym (f .find .ensures) ∙ c .before .before .before .b .given .1, c .of-dynamic .ensures, c .before .part .ensures)
+    let t = c .before .before in
+    rw (c .of-dynamic .ensures, c .before .bytes .ensures, sym (t .before .before .find .ensures), t .enum-told .given .1)
 
 pub mini-spec : {M : Type 1} → statement M
 mini-spec =
     tie.close
     (tie.spec
     find-requires
-    enum-known-b
     enum-told
+    enum-told-2
     returns
-    part-requires
+    bytes-requires
     of-dynamic-requires
     returns-2)

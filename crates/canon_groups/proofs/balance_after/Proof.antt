@@ -19,8 +19,8 @@ after-requires-2 c κs = search needs
 after-requires-3 : tie.Need-after-requires-3
 after-requires-3 c κs = search needs
 
-wide-requires : tie.Need-wide-requires
-wide-requires c κs = search needs
+u32-of-requires : tie.Need-u32-of-requires
+u32-of-requires c κs = search needs
 
 whole-requires : tie.Need-whole-requires
 whole-requires c κs = search needs
@@ -53,7 +53,7 @@ returns c =
       mode = (rw (c12 .balance-mode .ensures) at (c11 .after .ensures)) i;
       preset = (rw (c9 .balance-preset .ensures) at (c8 .after2 .ensures)) i;
       accurate = (c6 .after3 .ensures) i;
-      temperature = (rw (c3 .whole .ensures, c4 .wide .ensures) at (c2 .after4 .ensures)) i;
+      temperature = (rw (c3 .whole .ensures, c4 .u32-of .ensures) at (c2 .after4 .ensures)) i;
       isotemperature = (rw (c1 .line-index .ensures) at (c .after5 .ensures)) i;
     }
 
@@ -66,7 +66,7 @@ balance-after-spec =
     balance-preset-requires
     after-requires-2
     after-requires-3
-    wide-requires
+    u32-of-requires
     whole-requires
     after-requires-4
     line-index-requires

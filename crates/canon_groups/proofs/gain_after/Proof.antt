@@ -7,8 +7,8 @@ use Rattle.canon_groups.proofs.gain_after.Tie as tie
 after-requires : tie.Need-after-requires
 after-requires c κs = search needs
 
-short-requires : tie.Need-short-requires
-short-requires c κs = search needs
+u16-of-requires : tie.Need-u16-of-requires
+u16-of-requires c κs = search needs
 
 decibels-requires : tie.Need-decibels-requires
 decibels-requires c κs = search needs
@@ -16,11 +16,11 @@ decibels-requires c κs = search needs
 after-requires-2 : tie.Need-after-requires-2
 after-requires-2 c κs = search needs
 
-short-requires-2 : tie.Need-short-requires-2
-short-requires-2 c κs = search needs
+u16-of-requires-2 : tie.Need-u16-of-requires-2
+u16-of-requires-2 c κs = search needs
 
-wide-requires : tie.Need-wide-requires
-wide-requires c κs = search needs
+u32-of-requires : tie.Need-u32-of-requires
+u32-of-requires c κs = search needs
 
 whole-requires : tie.Need-whole-requires
 whole-requires c κs = search needs
@@ -37,8 +37,8 @@ decibels-requires-2 c κs = search needs
 after-requires-5 : tie.Need-after-requires-5
 after-requires-5 c κs = search needs
 
-wide-requires-2 : tie.Need-wide-requires-2
-wide-requires-2 c κs = search needs
+u32-of-requires-2 : tie.Need-u32-of-requires-2
+u32-of-requires-2 c κs = search needs
 
 whole-requires-2 : tie.Need-whole-requires-2
 whole-requires-2 c κs = search needs
@@ -85,8 +85,8 @@ returns c =
     let c22 = c21 .before in
     λ i. record {
       mode = (rw (c22 .after .ensures) at (c11 .after4 .ensures)) i;
-      level = (rw (c8 .decibels2 .ensures, c17 .after2 .ensures, c18 .decibels .ensures, c20 .short .ensures) at (c7 .after5 .ensures)) i;
-      «nd_filter» = (rw (c5 .whole2 .ensures, c6 .wide2 .ensures, c13 .after3 .ensures, c14 .whole .ensures, c15 .wide .ensures, c16 .short2 .ensures) at (c4 .after6 .ensures)) i;
+      level = (rw (c8 .decibels2 .ensures, c17 .after2 .ensures, c18 .decibels .ensures, c20 .u16-of .ensures) at (c7 .after5 .ensures)) i;
+      «nd_filter» = (rw (c5 .whole2 .ensures, c6 .u32-of2 .ensures, c13 .after3 .ensures, c14 .whole .ensures, c15 .u32-of .ensures, c16 .u16-of2 .ensures) at (c4 .after6 .ensures)) i;
       «iso_speed» = (rw (c3 .whole3 .ensures) at (c2 .after7 .ensures)) i;
       «base_iso» = (rw (c1 .whole4 .ensures) at (c .after8 .ensures)) i;
     }
@@ -96,17 +96,17 @@ gain-after-spec =
     tie.close
     (tie.spec
     after-requires
-    short-requires
+    u16-of-requires
     decibels-requires
     after-requires-2
-    short-requires-2
-    wide-requires
+    u16-of-requires-2
+    u32-of-requires
     whole-requires
     after-requires-3
     after-requires-4
     decibels-requires-2
     after-requires-5
-    wide-requires-2
+    u32-of-requires-2
     whole-requires-2
     after-requires-6
     whole-requires-3

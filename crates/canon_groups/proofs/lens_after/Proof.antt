@@ -4,8 +4,8 @@ use borrow.Author.Needs.{needs}
 use Rattle.canon_groups.proofs.lens_after.Statement.{statement}
 use Rattle.canon_groups.proofs.lens_after.Tie as tie
 
-wide-requires : tie.Need-wide-requires
-wide-requires c κs = search needs
+u32-of-requires : tie.Need-u32-of-requires
+u32-of-requires c κs = search needs
 
 tenths-requires : tie.Need-tenths-requires
 tenths-requires c κs = search needs
@@ -76,7 +76,7 @@ returns c =
     let c16 = c15 .before in
     let c17 = c16 .before in
     λ i. record {
-      «focal_length» = (rw (c16 .tenths .ensures, c17 .wide .ensures) at (c15 .after .ensures)) i;
+      «focal_length» = (rw (c16 .tenths .ensures, c17 .u32-of .ensures) at (c15 .after .ensures)) i;
       «electric_zoom» = (rw (c14 .zoom .ensures) at (c13 .after2 .ensures)) i;
       «f_number» = (rw (c12 .aperture .ensures) at (c11 .after3 .ensures)) i;
       «t_number» = (rw (c10 .aperture2 .ensures) at (c9 .after4 .ensures)) i;
@@ -90,7 +90,7 @@ pub lens-after-spec : {M : Type 1} → statement M
 lens-after-spec =
     tie.close
     (tie.spec
-    wide-requires
+    u32-of-requires
     tenths-requires
     after-requires
     zoom-requires

@@ -16,8 +16,8 @@ two-bits-requires c κs = search needs
 after-requires-2 : tie.Need-after-requires-2
 after-requires-2 c κs = search needs
 
-short-requires : tie.Need-short-requires
-short-requires c κs = search needs
+u16-of-requires : tie.Need-u16-of-requires
+u16-of-requires c κs = search needs
 
 quotient-requires-2 : tie.Need-quotient-requires-2
 quotient-requires-2 c κs = search needs
@@ -38,7 +38,7 @@ returns c =
     λ i. record {
       speed = (rw (c7 .quotient .ensures) at (c6 .after .ensures)) i;
       mode = (rw (c4 .two-bits .ensures) at (c3 .after2 .ensures)) i;
-      value = (rw (c1 .quotient2 .ensures, c2 .short .ensures) at (c .after3 .ensures)) i;
+      value = (rw (c1 .quotient2 .ensures, c2 .u16-of .ensures) at (c .after3 .ensures)) i;
     }
 
 pub shutter-after-spec : {M : Type 1} → statement M
@@ -49,7 +49,7 @@ shutter-after-spec =
     after-requires
     two-bits-requires
     after-requires-2
-    short-requires
+    u16-of-requires
     quotient-requires-2
     after-requires-3
     returns)

@@ -6,17 +6,18 @@ use native.Mathlib.Omega.{arith}
 use lib.ListN.{length}
 use denote.Ref.{now}
 use Rattle.steps.specs.Told.{found}
-use Rattle.parts.proofs.Parts.{number-there}
+use Rattle.parts.specs.Number.{twoAt}
 use Rattle.klv.specs.Item.{item}
 use Rattle.items.specs.Items.{itemStep}
 use Rattle.items.proofs.Laws.{Fit, item-fits}
-use Rattle.canon_sequence.proofs.Laws.{Going, going-start, going-next, going-end}
+use Rattle.items.proofs.Going.{Going, going-start, going-next, going-end}
+use Rattle.canon_sequence.specs.Sequence.{empty, fieldsOn, sequenceOf}
 use borrow.Author.Needs.{needs}
 use Rattle.canon_sequence.proofs.read.Statement.{statement}
 use Rattle.canon_sequence.proofs.read.Tie as tie
 
 abbrev Inv-loop : tie.InvT-loop
-Inv-loop s q₀ at₀ q at = Going s q at
+Inv-loop s q₀ at₀ q at = Going 2 false s (fieldsOn s) empty q at
 
 abbrev μ-loop : tie.MeasureT-loop
 μ-loop s q₀ at₀ q at = length s - at
@@ -34,7 +35,7 @@ empty-requires : tie.Need-empty-requires Inv-loop μ-loop
 empty-requires c κs = search needs
 
 loop-holds : tie.Need-loop-holds Inv-loop μ-loop
-loop-holds c = going-start _ _ (c .empty .ensures)
+loop-holds c = going-start _ _ _ _ _ _ (c .empty .ensures)
 
 step-requires : tie.Need-step-requires Inv-loop μ-loop
 step-requires c κs = search needs
@@ -46,10 +47,11 @@ enum-told : tie.Need-enum-told Inv-loop μ-loop
 enum-told c = search needs
 
 returns : tie.Need-returns Inv-loop μ-loop
-returns c = going-end _ _ _ (c .before .before .before .loop .inv) _ (sym (rw (c .enum-told .given .1) at (c .before .before .step .ensures)))
+unfolding sequenceOf
+returns c = going-end _ _ _ _ _ _ _ (c .before .before .before .loop .inv) (sym (rw (c .enum-told .given .1) at (c .before .before .step .ensures))) .1
 
-number-at-requires : tie.Need-number-at-requires Inv-loop μ-loop
-number-at-requires c κs = search needs
+two-at-requires : tie.Need-two-at-requires Inv-loop μ-loop
+two-at-requires c κs = search needs
 
 fields-after-requires : tie.Need-fields-after-requires Inv-loop μ-loop
 fields-after-requires c κs = omega (arith, fits (c .before))
@@ -58,13 +60,12 @@ loop-less : tie.Need-loop-less Inv-loop μ-loop
 loop-less c = omega (arith, fits (c .before .before))
 
 loop-again : tie.Need-loop-again Inv-loop μ-loop
+unfolding twoAt
 loop-again c =
     let m = c .before .before in
     let l = m .before .before .before .before in
-    let s = now (l .before .before .before .args .s) in
     let f = fits m in
-    let n = c .before .number-at .ensures ∙ number-there s (l .loop .at) 2 (λ i. l .before .before .shared-slice-known .given i .fits) (omega arith) (omega arith) in
-    rw (c .fields-after .ensures, n, sym (f .here)) (going-next s _ _ (l .loop .inv) _ _ (is-item m) (omega arith))
+    rw (c .fields-after .ensures, c .before .two-at .ensures) (going-next _ _ _ _ _ _ _ (l .loop .inv) _ _ (is-item m) (omega arith))
 
 pub read-spec : {M : Type 1} → statement M
 read-spec =
@@ -78,7 +79,7 @@ read-spec =
     enum-known-t
     enum-told
     returns
-    number-at-requires
+    two-at-requires
     fields-after-requires
     loop-less
     loop-again)

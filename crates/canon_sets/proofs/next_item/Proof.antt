@@ -1,12 +1,11 @@
 -- `canon_sets::next_item` meets its contract: the item at the run's end, by its tag.
-use mathlib.Core.Path.{_≡_, sym}
+use mathlib.Core.Path.{_≡_, sym, _∙_}
 use mathlib.Core.Bool.{false}
-use native.Mathlib.Omega.{arith}
 use denote.Ref.{now}
 use Rattle.steps.specs.Told.{found}
+use Rattle.parts.specs.Number.{oneAt}
 use Rattle.klv.specs.Item.{item}
 use Rattle.items.specs.Items.{itemStep}
-use Rattle.items.proofs.Laws.{Fit, item-fits}
 use Rattle.canon_sets.proofs.Laws.{items-over, item-run, item-other, run-in, behind}
 use borrow.Author.Needs.{needs}
 use Rattle.canon_sets.proofs.next_item.Statement.{statement}
@@ -19,9 +18,6 @@ start-of c = c .before .before .before .before .before
 is-item : (c : tie.After-known-told) → itemStep 1 false (now (start-of c .args .s)) (start-of c .args .end)
     ≡ found (item 1 (now (start-of c .args .s)) (c .before .t .given .0 .0)) (c .before .t .given .0 .1 .0 .at)
 is-item c = sym (rw (c .before .t .given .1) at (c .before .before .before .step .ensures))
-
-fits : (c : tie.After-known-told) → Fit 1 (now (start-of c .args .s)) (start-of c .args .end) (item 1 (now (start-of c .args .s)) (c .before .t .given .0 .0)) (c .before .t .given .0 .1 .0 .at)
-fits c = item-fits _ _ _ _ _ _ (is-item c)
 
 step-requires : tie.Need-step-requires
 step-requires c κs = search needs
@@ -37,22 +33,22 @@ returns c =
     let a = c .before .before .before .before in
     items-over _ _ _ (a .pre .1) _ (sym (rw (c .enum-told .given .1) at (c .before .before .step .ensures)))
 
-shared-slice-read-if1 : tie.Need-shared-slice-read-if1
-shared-slice-read-if1 c = omega (arith, fits (c .before))
+one-at-requires : tie.Need-one-at-requires
+one-at-requires c κs = search needs
 
 returns-2 : tie.Need-returns-2
+unfolding oneAt
 returns-2 c =
     let m = c .before .before in
     let a = m .before .before .before .before .before in
-    let f = fits m in
-    (item-run _ _ _ (a .pre .1) _ _ (is-item m) (rw (f .here) (c .if1 .taken)), run-in _ _ _ (a .pre .1) _ _ (is-item m) (a .pre .0))
+    (item-run _ _ _ (a .pre .1) _ _ (is-item m) (sym (c .before .one-at .ensures) ∙ c .if1 .taken), run-in _ _ _ (a .pre .1) _ _ (is-item m) (a .pre .0))
 
 returns-3 : tie.Need-returns-3
+unfolding oneAt
 returns-3 c =
     let m = c .before .before in
     let a = m .before .before .before .before .before in
-    let f = fits m in
-    (item-other _ _ _ (a .pre .1) _ _ (is-item m) (rw (f .here) (c .if1 .left)), behind _ _ _ (a .pre .1) _ _ (is-item m) (a .pre .0))
+    (item-other _ _ _ (a .pre .1) _ _ (is-item m) (λ e. c .if1 .left (c .before .one-at .ensures ∙ e)), behind _ _ _ (a .pre .1) _ _ (is-item m) (a .pre .0))
 
 pub next-item-spec : {M : Type 1} → statement M
 next-item-spec =
@@ -62,6 +58,6 @@ next-item-spec =
     enum-known-t
     enum-told
     returns
-    shared-slice-read-if1
+    one-at-requires
     returns-2
     returns-3)

@@ -19,11 +19,11 @@ returns-2 : tie.Need-returns-2
 unfolding quotient
 returns-2 c = simp (sym (c .before .before .before .missing .ensures) ∙ c .before .before .if1 .left, sym (c .before .missing2 .ensures) ∙ c .if2 .taken)
 
-wide-requires : tie.Need-wide-requires
-wide-requires c κs = search needs
+u32-of-requires : tie.Need-u32-of-requires
+u32-of-requires c κs = search needs
 
-wide-requires-2 : tie.Need-wide-requires-2
-wide-requires-2 c κs = search needs
+u32-of-requires-2 : tie.Need-u32-of-requires-2
+u32-of-requires-2 c κs = search needs
 
 ratio-requires : tie.Need-ratio-requires
 ratio-requires c κs = search needs
@@ -32,7 +32,7 @@ returns-3 : tie.Need-returns-3
 unfolding quotient
 returns-3 c =
     let m = c .before .before .before in
-    simp (sym (m .before .before .before .missing .ensures) ∙ m .before .before .if1 .left, sym (m .before .missing2 .ensures) ∙ m .if2 .left, c .ratio .ensures, c .before .wide2 .ensures, c .before .before .wide .ensures)
+    simp (sym (m .before .before .before .missing .ensures) ∙ m .before .before .if1 .left, sym (m .before .missing2 .ensures) ∙ m .if2 .left, c .ratio .ensures, c .before .u32-of2 .ensures, c .before .before .u32-of .ensures)
 
 pub quotient-spec : {M : Type 1} → statement M
 quotient-spec =
@@ -42,7 +42,7 @@ quotient-spec =
     returns
     missing-requires-2
     returns-2
-    wide-requires
-    wide-requires-2
+    u32-of-requires
+    u32-of-requires-2
     ratio-requires
     returns-3)

@@ -9,15 +9,15 @@ returns : tie.Need-returns
 unfolding zoom
 returns c = simp (eq-eqb _ _ (c .if1 .taken))
 
-wide-requires : tie.Need-wide-requires
-wide-requires c κs = search needs
+u32-of-requires : tie.Need-u32-of-requires
+u32-of-requires c κs = search needs
 
 tenths-requires : tie.Need-tenths-requires
 tenths-requires c κs = search needs
 
 returns-2 : tie.Need-returns-2
 unfolding zoom
-returns-2 c = simp (ne-eqb _ _ (c .before .before .if1 .left), c .tenths .ensures, c .before .wide .ensures)
+returns-2 c = simp (ne-eqb _ _ (c .before .before .if1 .left), c .tenths .ensures, c .before .u32-of .ensures)
 
 pub zoom-spec : {M : Type 1} → statement M
-zoom-spec = tie.close (tie.spec returns wide-requires tenths-requires returns-2)
+zoom-spec = tie.close (tie.spec returns u32-of-requires tenths-requires returns-2)

@@ -6,17 +6,19 @@ use native.Mathlib.Omega.{arith}
 use lib.ListN.{length}
 use denote.Ref.{now}
 use Rattle.steps.specs.Told.{found, nothing}
-use Rattle.parts.proofs.Parts.{number-there}
+use Rattle.parts.specs.Number.{twoAt}
 use Rattle.klv.specs.Item.{item}
 use Rattle.items.specs.Items.{itemStep}
 use Rattle.items.proofs.Laws.{Fit, item-fits}
-use Rattle.descriptor.proofs.Laws.{Going, going-start, going-next, over, cut}
+use Rattle.items.proofs.Going.{Going, going-start, going-next}
+use Rattle.descriptor.specs.Fields.{empty, fieldsOn}
+use Rattle.descriptor.proofs.Laws.{over, cut}
 use borrow.Author.Needs.{needs}
 use Rattle.descriptor.proofs.read.Statement.{statement}
 use Rattle.descriptor.proofs.read.Tie as tie
 
 abbrev Inv-loop : tie.InvT-loop
-Inv-loop s d₀ at₀ d at = Going s d at
+Inv-loop s d₀ at₀ d at = Going 2 false s (fieldsOn s) empty d at
 
 abbrev μ-loop : tie.MeasureT-loop
 μ-loop s d₀ at₀ d at = length s - at
@@ -38,7 +40,7 @@ empty-requires : tie.Need-empty-requires Inv-loop μ-loop
 empty-requires c κs = search needs
 
 loop-holds : tie.Need-loop-holds Inv-loop μ-loop
-loop-holds c = going-start _ _ (c .empty .ensures)
+loop-holds c = going-start _ _ _ _ _ _ (c .empty .ensures)
 
 step-requires : tie.Need-step-requires Inv-loop μ-loop
 step-requires c κs = search needs
@@ -53,13 +55,13 @@ sub-if1 : tie.Need-sub-if1 Inv-loop μ-loop
 sub-if1 c = omega (arith, c .before .before .before .loop .inv)
 
 returns : tie.Need-returns Inv-loop μ-loop
-returns c = over _ _ _ (c .before .before .before .before .loop .inv) _ (is-over (c .before)) (omega arith)
+returns c = over _ _ _ (c .before .before .before .before .loop .inv) (is-over (c .before)) (omega arith)
 
 returns-2 : tie.Need-returns-2 Inv-loop μ-loop
-returns-2 c = cut _ _ _ (c .before .before .before .before .loop .inv) _ (is-over (c .before)) (omega (arith, c .before .before .before .before .loop .inv))
+returns-2 c = cut _ _ _ (c .before .before .before .before .loop .inv) (is-over (c .before)) (omega (arith, c .before .before .before .before .loop .inv))
 
-number-at-requires : tie.Need-number-at-requires Inv-loop μ-loop
-number-at-requires c κs = search needs
+two-at-requires : tie.Need-two-at-requires Inv-loop μ-loop
+two-at-requires c κs = search needs
 
 fields-after-requires : tie.Need-fields-after-requires Inv-loop μ-loop
 fields-after-requires c κs = omega (arith, fits (c .before))
@@ -68,13 +70,12 @@ loop-less : tie.Need-loop-less Inv-loop μ-loop
 loop-less c = omega (arith, fits (c .before .before))
 
 loop-again : tie.Need-loop-again Inv-loop μ-loop
+unfolding twoAt
 loop-again c =
     let m = c .before .before in
     let l = m .before .before .before .before in
-    let s = now (l .before .before .before .args .s) in
     let f = fits m in
-    let n = c .before .number-at .ensures ∙ number-there s (l .loop .at) 2 (λ i. l .before .before .shared-slice-known .given i .fits) (omega arith) (omega arith) in
-    rw (c .fields-after .ensures, n, sym (f .here)) (going-next s _ _ (l .loop .inv) _ _ (is-item m) (omega arith))
+    rw (c .fields-after .ensures, c .before .two-at .ensures) (going-next _ _ _ _ _ _ _ (l .loop .inv) _ _ (is-item m) (omega arith))
 
 pub read-spec : {M : Type 1} → statement M
 read-spec =
@@ -90,7 +91,7 @@ read-spec =
     sub-if1
     returns
     returns-2
-    number-at-requires
+    two-at-requires
     fields-after-requires
     loop-less
     loop-again)

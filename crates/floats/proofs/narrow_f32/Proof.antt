@@ -26,8 +26,8 @@ float-to-bits-bits c = not-nan (c .before .args .x) (c .if1 .left)
 add-digits : tie.Need-add-digits
 add-digits c = search needs
 
-less-requires : tie.Need-less-requires
-less-requires c κs = search needs
+saturating-sub-requires : tie.Need-saturating-sub-requires
+saturating-sub-requires c κs = search needs
 
 least-requires : tie.Need-least-requires
 least-requires c κs = search needs
@@ -35,8 +35,8 @@ least-requires c κs = search needs
 add-dropped : tie.Need-add-dropped
 add-dropped c = search needs
 
-less-requires-2 : tie.Need-less-requires-2
-less-requires-2 c κs = search needs
+saturating-sub-requires-2 : tie.Need-saturating-sub-requires-2
+saturating-sub-requires-2 c κs = search needs
 
 cast-packed-f32 : tie.Need-cast-packed-f32
 cast-packed-f32 c = search needs
@@ -80,9 +80,9 @@ returns-2 c =
     let e = b % 2 ^ 63 / 2 ^ 52 in
     let fit : T (fits binary64 x) = search needs in
     let F : b / 2 ^ 52 % 2048 ≡ e = sym (field b 11 52) in
-    let K : c .before .less2 .result ≡ e - 897 = c .before .less2 .ensures ∙ ap (λ (n : ℕ). n - 897) F in
+    let K : c .before .saturating-sub2 .result ≡ e - 897 = c .before .saturating-sub2 .ensures ∙ ap (λ (n : ℕ). n - 897) F in
     let D : 29 + c .before .before .least .result ≡ 29 + min (897 - e) 34 =
-    ap (λ (n : ℕ). 29 + n) (c .before .before .least .ensures ∙ ap (λ (n : ℕ). min n 34) (c .before .before .before .less .ensures ∙ ap (λ (n : ℕ). 897 - n) F)) in
+    ap (λ (n : ℕ). 29 + n) (c .before .before .least .ensures ∙ ap (λ (n : ℕ). min n 34) (c .before .before .before .saturating-sub .ensures ∙ ap (λ (n : ℕ). 897 - n) F)) in
     let Q = ap₂ (λ (k d : ℕ). packedBits binary32 k (closest (b % 2 ^ 52 + 2 ^ 52) (2 ^ d))) K D in
     ap (ofBits binary32) (ap₂ (λ (m n : ℕ). m + n) (sign b (wide c)) (c .packed-f32 .ensures ∙ Q)) ∙ sym (narrow-bits x fit (not-nan x (c .before .before .before .before .if1 .left)))
 
@@ -93,10 +93,10 @@ narrow-f32-spec =
     returns
     float-to-bits-bits
     add-digits
-    less-requires
+    saturating-sub-requires
     least-requires
     add-dropped
-    less-requires-2
+    saturating-sub-requires-2
     cast-packed-f32
     packed-f32-requires
     cast-sign

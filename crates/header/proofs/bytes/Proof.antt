@@ -1,7 +1,7 @@
 -- `header::bytes` meets its contract: the part at the place that was found, or none of it.
-use mathlib.Core.Path.{_≡_, sym, ap, _∙_}
+use mathlib.Core.Path.{_≡_, ap, _∙_}
 use denote.Ref.{now}
-use Rattle.header.specs.declared.Header.the-variants.{Part, Nothing}
+use Rattle.parts.specs.Answer.{is, none}
 use Rattle.header.specs.Header.{headerOf, bytesOf}
 use borrow.Author.Needs.{needs}
 use Rattle.header.proofs.bytes.Statement.{statement}
@@ -24,7 +24,7 @@ unfolding bytesOf
 returns c =
     let f = c .before .before .before in
     let s = now (f .before .before .args .s) in
-    let h : Nothing ≡ headerOf s = sym (c .before .enum-told .given .1) ∙ f .find .ensures in
+    let h : none ≡ headerOf s = rw (c .before .enum-told .given .1) at (f .find .ensures) in
     c .part .ensures ∙ ap (bytesOf s) h
 
 part-requires-2 : tie.Need-part-requires-2
@@ -35,7 +35,7 @@ unfolding bytesOf
 returns-2 c =
     let f = c .before .before .before .before in
     let s = now (f .before .before .args .s) in
-    let h : Part (c .before .before .h .given .0 .0) ≡ headerOf s = sym (c .before .before .h .given .1) ∙ f .find .ensures in
+    let h : is (c .before .before .h .given .0 .0) ≡ headerOf s = rw (c .before .before .h .given .1) at (f .find .ensures) in
     c .part2 .ensures ∙ ap (bytesOf s) h
 
 pub bytes-spec : {M : Type 1} → statement M

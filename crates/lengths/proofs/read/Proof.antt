@@ -12,11 +12,11 @@ returns c = sym (past _ _ (omega arith))
 shared-slice-read-first : tie.Need-shared-slice-read-first
 shared-slice-read-first c = search needs
 
-wide-requires : tie.Need-wide-requires
-wide-requires c κs = search needs
+u64-of-requires : tie.Need-u64-of-requires
+u64-of-requires c κs = search needs
 
 returns-2 : tie.Need-returns-2
-returns-2 c = rw (c .wide .ensures) (sym (short _ _ (omega arith) (omega arith)))
+returns-2 c = rw (c .u64-of .ensures) (sym (short _ _ (omega arith) (omega arith)))
 
 returns-3 : tie.Need-returns-3
 returns-3 c = sym (no-length _ _ (omega arith) (omega arith))
@@ -64,7 +64,7 @@ read-spec =
     (tie.spec
     returns
     shared-slice-read-first
-    wide-requires
+    u64-of-requires
     returns-2
     returns-3
     cast-n

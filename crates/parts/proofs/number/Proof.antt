@@ -23,11 +23,11 @@ loop-holds c = search needs
 mul-value : tie.Need-mul-value Inv-loop μ-loop
 mul-value c = search needs
 
-shared-slice-read-wide : tie.Need-shared-slice-read-wide Inv-loop μ-loop
-shared-slice-read-wide c = search needs
+shared-slice-read-u64-of : tie.Need-shared-slice-read-u64-of Inv-loop μ-loop
+shared-slice-read-u64-of c = search needs
 
-wide-requires : tie.Need-wide-requires Inv-loop μ-loop
-wide-requires c κs = search needs
+u64-of-requires : tie.Need-u64-of-requires Inv-loop μ-loop
+u64-of-requires c κs = search needs
 
 add-value : tie.Need-add-value Inv-loop μ-loop
 add-value c =
@@ -45,7 +45,7 @@ loop-again c =
     let w = c .before .before .before in
     let s = now (w .before .before .args .s) in (
       omega arith,
-      rw (w .loop .inv .1, c .wide .ensures)
+      rw (w .loop .inv .1, c .u64-of .ensures)
           (low-more s (w .loop .i) (c .before .shared-slice-known2 .given (w .loop .i) .fits)),
     )
 
@@ -62,8 +62,8 @@ number-spec =
     μ-loop
     loop-holds
     mul-value
-    shared-slice-read-wide
-    wide-requires
+    shared-slice-read-u64-of
+    u64-of-requires
     add-value
     add-i
     loop-less

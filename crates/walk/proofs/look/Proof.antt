@@ -76,16 +76,16 @@ add-v c = search needs
 add-v-2 : tie.Need-add-v-2
 add-v-2 c = omega (arith, is-long (c .before) .there)
 
-less-requires : tie.Need-less-requires
-less-requires c κs = search needs
+saturating-sub-requires : tie.Need-saturating-sub-requires
+saturating-sub-requires c κs = search needs
 
 returns-6 : tie.Need-returns-6
 returns-6 c =
     let w = c .before .before .before in
     sym (rule-record _ _ _ _ (omega arith) (is-key (w .before .before .before .before .before)) _ (is-length w) (omega arith))
 
-less-requires-2 : tie.Need-less-requires-2
-less-requires-2 c κs = search needs
+saturating-sub-requires-2 : tie.Need-saturating-sub-requires-2
+saturating-sub-requires-2 c κs = search needs
 
 returns-7 : tie.Need-returns-7
 returns-7 c =
@@ -115,8 +115,8 @@ look-spec =
     returns-5
     add-v
     add-v-2
-    less-requires
+    saturating-sub-requires
     returns-6
-    less-requires-2
+    saturating-sub-requires-2
     returns-7
     returns-8)
