@@ -1,14 +1,14 @@
 -- What a camera's walk shows goes by its steps, and Sony's and ARRI's give nothing beside frames. Assumes nothing.
 use Prim.Native.Nat.{ℕ}
-use mathlib.Core.Path.{_≡_, refl, sym, _∙_}
+use mathlib.Core.Path.{_≡_, refl, _∙_}
 use mathlib.Core.List.{List}
 use mathlib.Core.Bool.{Bool, true, false, cond, _||_}
 use native.Mathlib.Omega.{arith}
 use lib.ListN.{length}
 use lib.Dec.{ltb}
 use Rattle.labels.specs.Label.{agreeBut, sameLabel}
-use Rattle.steps.specs.Told.{ToldAt, found, refused}
-use Rattle.steps.specs.Tells.{Said, tells}
+use Rattle.steps.specs.Told.{found, refused}
+use Rattle.steps.specs.Tells.{tells}
 use Rattle.steps.specs.Next.{Cursor}
 use Rattle.steps.proofs.Laws.{same-steps}
 use Rattle.steps.proofs.Next.{of-next, told-steps}
@@ -21,7 +21,7 @@ use Rattle.frame_walks.specs.declared.Kind.{Kind}
 use Rattle.frame_walks.specs.declared.Kind.the-variants as kinds
 use Rattle.frame_walks.specs.Labels.{ancillary, pictureMetadata, frameData}
 use Rattle.frame_walks.specs.Kinds.{kind, kindOf, sonyKind, arriKind, goesOn}
-use Rattle.frame_walks.specs.Frames.{Shown, framed, given, FrameTold, showingAs, showing, next, frameStep}
+use Rattle.frame_walks.specs.Frames.{given, showingAs, showing, next, frameStep}
 use Rattle.frame_walks.proofs.Seeks.{frame-within, record-step, record-moves}
 use Rattle.frame_lists.specs.Steps.{framesFrom, overAt, ListedBySteps, NothingBeside}
 

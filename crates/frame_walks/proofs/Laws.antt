@@ -6,7 +6,7 @@ use mathlib.Core.Bool.{Bool, true, false, cond}
 use native.Mathlib.Omega.{arith}
 use borrow.Author.Tests.{le-leb, lt-leb}
 use Rattle.labels.specs.Label.{sameLabel}
-use Rattle.klv.specs.Item.{Item, past}
+use Rattle.klv.specs.Item.{past}
 use Rattle.records.proofs.Lists.{Onward}
 use Rattle.frame_walks.specs.declared.Kind.the-variants.{Given}
 use Rattle.frame_walks.specs.declared.Camera.{Camera}

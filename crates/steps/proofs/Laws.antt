@@ -1,6 +1,6 @@
 -- A list goes as its steps say: the fuel of the definitions is enough. Assumes nothing.
 use Prim.Native.Nat.{ℕ, zero, suc, _-_, _<_}
-use mathlib.Core.Path.{_≡_, refl, sym, ap, _∙_}
+use mathlib.Core.Path.{_≡_, refl, sym, _∙_}
 use mathlib.Core.List.{List, [], _∷_}
 use native.Mathlib.Omega.{arith}
 use Rattle.steps.specs.Told.{Told, ToldAt, found, nothing, refused}

@@ -1,7 +1,7 @@
 -- Steps to what is told go as the steps below them say, and what is told of the list goes by them. Assumes nothing.
 use Prim.Native.Nat.{ℕ, zero, suc, _-_, _<_}
-use mathlib.Core.Path.{_≡_, refl, sym, ap, _∙_}
-use mathlib.Core.List.{[], _∷_}
+use mathlib.Core.Path.{_≡_, refl, ap, _∙_}
+use mathlib.Core.List.{[]}
 use native.Mathlib.Omega.{arith}
 use Rattle.steps.specs.Told.{Told, ToldAt, found, nothing, refused}
 use Rattle.steps.specs.Listed.{listFrom, endFrom}

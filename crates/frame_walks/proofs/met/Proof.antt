@@ -1,6 +1,6 @@
 -- `frame_walks::met` meets its contract: each return is one kind's.
 use Prim.Native.Nat.{ℕ}
-use mathlib.Core.Path.{_≡_, refl, sym, ap, _∙_}
+use mathlib.Core.Path.{_≡_, sym, ap, _∙_}
 use mathlib.Core.List.{List}
 use lib.Dec.{ltb}
 use denote.Ref.{now}

@@ -1,9 +1,8 @@
 -- `frame_walks::seek` meets its contract. The loop's invariant: the next of what is shown from where it stands is the one that was asked for.
 use Prim.Native.Nat.{_-_}
-use mathlib.Core.Path.{_≡_, refl, sym, ap, _∙_}
+use mathlib.Core.Path.{_≡_, refl, sym, _∙_}
 use native.Mathlib.Omega.{arith}
-use Rattle.steps.specs.Next.{Cursor}
-use Rattle.frame_walks.specs.Frames.{FrameTold, next}
+use Rattle.frame_walks.specs.Frames.{next}
 use Rattle.frame_walks.specs.Told.{placeAt}
 use Rattle.frame_walks.proofs.Seeks.{frame-refused, frame-within, Leads, leads-by}
 use borrow.Author.Needs.{needs}
