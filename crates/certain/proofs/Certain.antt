@@ -1,51 +1,38 @@
--- Demand 3, and what follows from it. Assumes nothing.
+-- Demand 3 of the records, and that a record once found stays the next one. Assumes nothing.
 use Prim.Native.Nat.{ℕ, _+_, _-_, _≤_}
 use mathlib.Core.Path.{_≡_, refl, sym, ap, _∙_}
-use mathlib.Core.List.{List, [], _∷_, _++_, append-nil, append-assoc, head-eq-of-cons-eq}
+use mathlib.Core.List.{List, _∷_, _++_, head-eq-of-cons-eq}
 use native.Mathlib.Omega.{arith}
-use native.Mathlib.Nat.{le-refl}
-use native.Mathlib.Decide.{decLt}
-use mathlib.Core.Logic.{by-cases}
-use lib.ListN.{length, length-append, List·getD-append, List·getD-eq-default}
-use Rattle.parts.specs.Bytes.{Bytes}
+use lib.ListN.{length, length-append}
 use Rattle.steps.specs.Told.{Told, found, nothing, refused}
+use Rattle.steps.specs.Next.{cursor}
+use Rattle.steps.proofs.Tells.{itself, told-itself}
 use Rattle.klv.specs.Item.{Item, item, past}
-use Rattle.walk.specs.declared.Turn.{Turn}
-use Rattle.walk.specs.declared.Turn.the-variants.{Stop}
 use Rattle.walk.specs.declared.Walked.{Walked}
 use Rattle.walk.specs.declared.Walked.the-variants.{Found, Stopped, Lost}
-use Rattle.walk.specs.Rules.{rules}
 use Rattle.walk.specs.Walk.{walked, stepped, arrivingStep}
-use Rattle.walk.proofs.Laws.{rule-end, rule-cut, Rule, at-end, no-key, cut-off, no-length, whole, waits, late, rule}
 use Rattle.walk.proofs.Answers.{arriving-found, arriving-stopped, arriving-lost, not-past-limit}
-use Rattle.records.specs.Records.{finishedFrom, arrivingFrom}
+use Rattle.records.specs.Records.{finishedFrom, arrivingFrom, waitsAt, finishedTold, arrivingTold, waitsTold}
 use Rattle.records.proofs.Stepping.{stepped-on, arriving-steps}
-use Rattle.certain.specs.Certain.{File, Certain, NeverUnsaid, GoesOn, StaysNext, NothingMore}
-use Rattle.certain.proofs.Held.{fin-stop, held}
-use Rattle.certain.proofs.Longest.{longest-by}
-use Rattle.certain.proofs.GoingOn.{goes-on-by}
+use Rattle.certain.specs.Certain.{CertainLists, CertainRecords, StaysNext}
+use Rattle.certain.proofs.Told.{certain-told}
 
-pub certain : Certain
-certain limit a p bytes fits = longest-by stepped stepped-on limit a fits p bytes
+-- a record as it is, with nothing carried
+plain : CertainLists (finishedTold {S = Unit {0}} stepped itself) (arrivingTold stepped itself) (waitsTold stepped itself)
+plain =
+    certain-told stepped itself
+    (record { on = stepped-on; place = λ i. i .klv .at; placed = λ s i b t x. let e : i ≡ b = cc in ap (λ (j : Item). j .klv .at) (sym e); steps = λ s i t x. refl })
 
--- a file that starts with more bytes starts with the first of them
-fewer : (limit : ℕ) (a x f : List ℕ) → File limit (a ++ x) f → File limit a f
-fewer limit a x f file =
-    record { rest = x ++ file .rest; starts = file .starts ∙ append-assoc a x (file .rest); bytes = file .bytes; within = file .within }
-
-first-bytes : (a x : List ℕ) → Bytes (a ++ x) → Bytes a
-first-bytes a x b i =
-    by-cases (decLt i (length a))
-    (λ h. rw (List·getD-append a x 0 i h) at (b i))
-    (λ h. rw (List·getD-eq-default a 0 {n = i} (omega arith)) (omega arith))
-
-pub never-unsaid : NeverUnsaid
-never-unsaid limit a x p bytes fits =
-    certain limit (a ++ x) p bytes fits .longest (arrivingFrom limit a p)
-    (λ f file. certain limit a p (first-bytes a x bytes) (omega (arith, length-append a x)) .begins f (fewer limit a x f file))
-
-pub goes-on : GoesOn
-goes-on limit a x p fits = goes-on-by stepped stepped-on limit a x fits p
+pub certain : CertainRecords
+certain =
+    coe 0 1
+    (i. CertainLists (λ f e p. told-itself tt (finishedFrom f e p) i) (λ limit a p. told-itself tt (arrivingFrom limit a p) i) waitsAt)
+    (record {
+      certain = λ limit a p. plain .certain limit a (cursor p tt);
+      never-unsaid = λ limit a x p. plain .never-unsaid limit a x (cursor p tt);
+      goes-on = λ limit a x p. plain .goes-on limit a x (cursor p tt);
+      nothing-more = λ a p. plain .nothing-more a (cursor p tt);
+    })
 
 -- a record is followed by the cursor behind its value
 found-past : (limit : ℕ) (a : List ℕ) (p : ℕ) (i : Item) (q : ℕ) → length a ≤ limit → arrivingStep limit a p ≡ found i q → q ≡ past (i .klv)
@@ -70,7 +57,7 @@ stays-next limit a x p i q fits h = go (arrivingStep limit (a ++ x) p) refl
     list-so : arrivingFrom limit (a ++ x) p ≡ i ∷ arrivingFrom limit (a ++ x) q
     list-so =
         let steps = arriving-steps limit a within in
-        sym (goes-on limit a x p fits) ∙ rw (steps .next p i q h, steps .left-next p i q h) (ap (λ (r : List Item). i ∷ r) (goes-on limit a x q fits))
+        sym (certain .goes-on limit a x p fits) ∙ rw (steps .next p i q h, steps .left-next p i q h) (ap (λ (r : List Item). i ∷ r) (certain .goes-on limit a x q fits))
 
     go : (t : Told Item) → arrivingStep limit (a ++ x) p ≡ t → arrivingStep limit (a ++ x) p ≡ found i q
     go (found j r) y =
@@ -79,22 +66,3 @@ stays-next limit a x p i q fits h = go (arrivingStep limit (a ++ x) p) refl
         y ∙ (λ k. found (e k) (u k))
     go (nothing r) y = let l = sym (arriving-steps limit (a ++ x) fits .over p r y) ∙ list-so in absurd (let z : _≡_ {A = ℕ} 0 1 = cc in omega arith)
     go (refused n r) y = absurd (not-past-limit limit (a ++ x) p fits n r y)
-
--- a value that is waited for would have to end within what has arrived, where it would be whole
-none-waited : (a : List ℕ) (w : ℕ) → rules (length a) a (length a) w ≡ Stop → finishedFrom a (length a) w ≡ []
-none-waited a w t = go (rules (length a) a (length a) w) (rule (length a) a (length a) w) t
-  where
-    go : (u : Turn) → Rule (length a) a (length a) w u → u ≡ Stop → finishedFrom a (length a) w ≡ []
-    go u (at-end h) e = fin-stop stepped stepped-on a w (rule-end 0 a (length a) w h)
-    go u (no-key h k) e = absurd (let z : _≡_ {A = ℕ} 0 1 = cc in omega arith)
-    go u (cut-off h k l) e = fin-stop stepped stepped-on a w (rule-cut 0 a (length a) w h k l)
-    go u (no-length h k l) e = absurd (let z : _≡_ {A = ℕ} 0 1 = cc in omega arith)
-    go u (whole h k f l m) e = absurd (let z : _≡_ {A = ℕ} 0 1 = cc in omega arith)
-    go u (waits h k f l m n) e = absurd (omega arith)
-    go u (late h k f l m n) e = absurd (let z : _≡_ {A = ℕ} 0 1 = cc in omega arith)
-
-pub nothing-more : NothingMore
-nothing-more a p =
-    let i = held stepped stepped-on (length a) a p in
-    let whole = rw append-nil at (i .rest [] (rw append-nil (le-refl (length a)))) in
-    rw append-nil at (rw (none-waited a (i .w) (i .waits)) at whole)

@@ -2,4 +2,5 @@ pub mod Kept
 pub mod Held
 pub mod Longest
 pub mod GoingOn
+pub mod Told
 pub mod Certain

@@ -30,29 +30,40 @@ pub record Longest {A : Type 0} (listOf : List ℕ → List A) (limit : ℕ) (a 
   pub begins : BeginsAll listOf limit a l
   pub longest : (m : List A) → BeginsAll listOf limit a m → Begins m l
 
--- Each of these for every place p that walking starts from, 0 or any cursor
+-- Of the lists of any walk, from any cursor c: `listed f e` is the list of the finished walk of f with the end e, `arrived
+-- limit a` that of the arriving walk, `waits limit a` the cursor where it waits
 
 -- Demand 3
-abbrev pub Certain : Type 0
-Certain = (limit : ℕ) (a : List ℕ) (p : ℕ) → Bytes a → length a ≤ limit → Longest (λ f. finishedFrom f (length f) p) limit a (arrivingFrom limit a p)
+abbrev pub Certain : {A C : Type 0} → (List ℕ → ℕ → C → List A) → (ℕ → List ℕ → C → List A) → Type 0
+Certain {A} {C} listed arrived =
+    (limit : ℕ) (a : List ℕ) (c : C) → Bytes a → length a ≤ limit → Longest (λ f. listed f (length f) c) limit a (arrived limit a c)
 
--- More bytes never unsay a record
-abbrev pub NeverUnsaid : Type 0
-NeverUnsaid =
-    (limit : ℕ) (a x : List ℕ) (p : ℕ) → Bytes (a ++ x) → length (a ++ x) ≤ limit → Begins (arrivingFrom limit a p) (arrivingFrom limit (a ++ x) p)
+-- More bytes never unsay what is listed
+abbrev pub NeverUnsaid : {A C : Type 0} → (ℕ → List ℕ → C → List A) → Type 0
+NeverUnsaid {A} {C} arrived =
+    (limit : ℕ) (a x : List ℕ) (c : C) → Bytes (a ++ x) → length (a ++ x) ≤ limit → Begins (arrived limit a c) (arrived limit (a ++ x) c)
 
 -- Going on from the cursor where the walk of a waits gives what walking anew gives
-abbrev pub GoesOn : Type 0
-GoesOn =
-    (limit : ℕ) (a x : List ℕ) (p : ℕ) → length (a ++ x) ≤ limit
-    → arrivingFrom limit a p ++ arrivingFrom limit (a ++ x) (waitsAt limit a p) ≡ arrivingFrom limit (a ++ x) p
+abbrev pub GoesOn : {A C : Type 0} → (ℕ → List ℕ → C → List A) → (ℕ → List ℕ → C → C) → Type 0
+GoesOn {A} {C} arrived waits =
+    (limit : ℕ) (a x : List ℕ) (c : C) → length (a ++ x) ≤ limit → arrived limit a c ++ arrived limit (a ++ x) (waits limit a c) ≡ arrived limit (a ++ x) c
+
+-- Where the limit is a's own length nothing more can come: the list is a's finished list
+abbrev pub NothingMore : {A C : Type 0} → (List ℕ → ℕ → C → List A) → (ℕ → List ℕ → C → List A) → Type 0
+NothingMore {A} {C} listed arrived = (a : List ℕ) (c : C) → arrived (length a) a c ≡ listed a (length a) c
+
+pub record CertainLists {A C : Type 0} (listed : List ℕ → ℕ → C → List A) (arrived : ℕ → List ℕ → C → List A) (waits : ℕ → List ℕ → C → C) : Type 0 where
+  pub certain : Certain listed arrived
+  pub never-unsaid : NeverUnsaid arrived
+  pub goes-on : GoesOn arrived waits
+  pub nothing-more : NothingMore listed arrived
+
+-- The records, from 0 or from any place
+abbrev pub CertainRecords : Type 0
+CertainRecords = CertainLists finishedFrom arrivingFrom waitsAt
 
 -- A record that a step gave stays the next one, whatever has come since, and walking goes on from its cursor
 abbrev pub StaysNext : Type 0
 StaysNext =
     (limit : ℕ) (a x : List ℕ) (p : ℕ) (i : Item) (q : ℕ) → length (a ++ x) ≤ limit → arrivingStep limit a p ≡ found i q
     → arrivingStep limit (a ++ x) p ≡ found i q
-
--- Where the limit is a's own length nothing more can come: the list is a's finished list
-abbrev pub NothingMore : Type 0
-NothingMore = (a : List ℕ) (p : ℕ) → arrivingFrom (length a) a p ≡ finishedFrom a (length a) p

@@ -15,6 +15,7 @@ use Rattle.frame_walks.specs.declared.Kind.{Kind}
 use Rattle.frame_walks.specs.declared.Kind.the-variants as kinds
 use Rattle.frame_walks.specs.Kinds.{kind, goesOn}
 use Rattle.frame_walks.specs.Frames.{Shown, framed, given, frame, after, showingAs, showing}
+use Rattle.frame_walks.proofs.Laws.{counts}
 use Rattle.frame_walks.proofs.Seeks.{record-step, record-moves}
 use Rattle.frame_lists.specs.Lists.{numbered, shown}
 use Rattle.frame_lists.specs.Steps.{SameFrames}
@@ -32,9 +33,6 @@ module _ {A : Type 0} (step : ℕ → Told A) (e : ℕ) (moves : Moves step e) w
           rw (listed step e moves p, x) (omega (arith, ih q (omega (arith, m .0, m .1)), m .0, m .1))
       go (nothing q) x ih = rw (listed step e moves p, x) (omega arith)
       go (refused n q) x ih = rw (listed step e moves p, x) (omega arith)
-
-counts : (n m : ℕ) → n + suc m < 2 ^ 64 → after n ≡ n + 1
-counts n m h = omega arith
 
 module _ (c : Camera) where
   same-shown : (l : List Item) (n : ℕ) → n + length l < 2 ^ 64 → toldFrom (showing c) n l ≡ shown c n l

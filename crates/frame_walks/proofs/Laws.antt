@@ -1,5 +1,5 @@
--- What a record is to Canon's walk, and where a walk goes on. Assumes nothing.
-use Prim.Native.Nat.{ℕ, _≤_, _<_}
+-- What a record is to Canon's walk, where a walk goes on, and how it counts. Assumes nothing.
+use Prim.Native.Nat.{ℕ, suc, _+_, _^_, _≤_, _<_}
 use mathlib.Core.Path.{_≡_}
 use mathlib.Core.List.{List}
 use mathlib.Core.Bool.{Bool, true, false, cond}
@@ -12,6 +12,7 @@ use Rattle.frame_walks.specs.declared.Kind.the-variants.{Given}
 use Rattle.frame_walks.specs.declared.Camera.{Camera}
 use Rattle.frame_walks.specs.Kinds.{sonyKind, canonKind, overLong, goesOn}
 use Rattle.frame_walks.specs.Labels.{packageMetadata, sequenceInfo}
+use Rattle.frame_walks.specs.Frames.{after}
 
 -- Canon's kinds
 
@@ -42,3 +43,7 @@ goes-onward c i = go (overLong c i)
     go : (b : Bool) → i .klv .value ≤ cond b (i .klv .value) (past (i .klv))
     go true = omega arith
     go false = omega arith
+
+-- in 64 bits a number counts on by one
+pub counts : (n m : ℕ) → n + suc m < 2 ^ 64 → after n ≡ n + 1
+counts n m h = omega arith

@@ -3,6 +3,8 @@ use Prim.Native.Nat.{ℕ}
 use mathlib.Core.List.{List}
 use lib.ListN.{length}
 use Rattle.steps.specs.Listed.{listFrom, endFrom}
+use Rattle.steps.specs.Tells.{Said}
+use Rattle.steps.specs.Next.{Cursor, toldList, toldEnd}
 use Rattle.klv.specs.Item.{Item}
 use Rattle.walk.specs.Walk.{finishedBy, arrivingBy, stepped}
 
@@ -32,3 +34,13 @@ endsAt s e p = endFrom (finishedBy stepped s e) e p
 -- and where the arriving walk of a from p on waits
 abbrev pub waitsAt : ℕ → List ℕ → ℕ → ℕ
 waitsAt limit a p = endFrom (arrivingBy stepped limit a) (length a) p
+
+-- What is told of a walk's records from a cursor on, finished and arriving, and the cursor where the arriving walk waits
+abbrev pub finishedTold : {S B : Type 0} → (Item → ℕ) → (S → Item → Said S B) → List ℕ → ℕ → Cursor S → List B
+finishedTold next say s e k = toldList say (finishedBy next s e) e k
+
+abbrev pub arrivingTold : {S B : Type 0} → (Item → ℕ) → (S → Item → Said S B) → ℕ → List ℕ → Cursor S → List B
+arrivingTold next say limit a k = toldList say (arrivingBy next limit a) (length a) k
+
+abbrev pub waitsTold : {S B : Type 0} → (Item → ℕ) → (S → Item → Said S B) → ℕ → List ℕ → Cursor S → Cursor S
+waitsTold next say limit a k = toldEnd say (arrivingBy next limit a) (length a) k
