@@ -13,10 +13,8 @@
 #define PAINT 0xa5
 
 static uint8_t bytes[BYTES], other[BYTES], payload[BYTES];
-static uint64_t records[3 * 4096], out[8], present[31], whole[31], rates_present[2], frame[4];
+static uint64_t records[3 * 4096], out[8], kind[BRINE_VALUES], bits[BRINE_VALUES], frame[4];
 static size_t firsts[64], counts[64];
-static float singles[6];
-static double doubles[31];
 static int64_t positions[2];
 static volatile uint64_t sink;
 
@@ -42,15 +40,15 @@ static void do_primer(void) { sink = brine_primer(bytes, BYTES, 0x0e2b, out); }
 static void do_arri_block(void) { sink = brine_arri_block(bytes, BYTES, out); }
 static void do_payload(void) { sink = brine_payload(bytes, BYTES, payload, BYTES, out); }
 static void do_line(void) { sink = brine_line(bytes, BYTES, 2, 65535, out); }
-static void do_descriptor(void) { sink = brine_descriptor(bytes, BYTES, present, whole, rates_present, doubles); }
+static void do_descriptor(void) { sink = brine_descriptor(bytes, BYTES, kind, bits); }
 static void do_sony_step(void) { sink = brine_sony_step(bytes, BYTES, BYTES, 0, 0, out); }
 static void do_arri_step(void) { sink = brine_arri_step(bytes, BYTES, BYTES, 0, 0, out); }
 static void do_canon_step(void) { sink = brine_canon_step(bytes, BYTES, BYTES, 0, 0, out); }
-static void do_of_dynamic(void) { sink = brine_of_dynamic(bytes, 256, present, whole, singles, doubles); }
-static void do_of_alexa35(void) { sink = brine_of_alexa35(bytes, BYTES, present, whole, singles, doubles); }
-static void do_arri_values(void) { sink = brine_arri_values(bytes, BYTES, frame, out, present, whole, singles, doubles); }
+static void do_of_dynamic(void) { sink = brine_of_dynamic(bytes, 256, kind, bits); }
+static void do_of_alexa35(void) { sink = brine_of_alexa35(bytes, BYTES, kind, bits); }
+static void do_arri_values(void) { sink = brine_arri_values(bytes, BYTES, frame, out, kind, bits); }
 static void do_package(void) { sink = brine_package(bytes, BYTES, 0, 0, out); }
-static void do_camera(void) { sink = brine_camera(bytes, BYTES, present, whole, doubles); }
+static void do_camera(void) { sink = brine_camera(bytes, BYTES, kind, bits); }
 static void do_sequence(void) { sink = brine_sequence(bytes, BYTES, out, positions); }
 
 #define CALL(name) {"brine_" #name, do_##name, 0}

@@ -3,6 +3,9 @@
 mod inputs;
 mod linear;
 mod measure;
+#[allow(dead_code)]
+#[path = "../../rust/src/places.rs"]
+mod places;
 mod port;
 mod published;
 mod rows;

@@ -78,41 +78,44 @@ pub fn sequence(s: &[u8]) -> ([u64; 8], [i64; 2]) {
 
 /// How many items of a descriptor are there.
 pub fn descriptor_items(s: &[u8]) -> u64 {
-    let (mut present, mut whole, mut rates_present, mut rates) = ([0; 16], [0; 16], [0; 2], [0.0; 2]);
-    unsafe { brine_descriptor(s.as_ptr(), s.len(), &mut present, &mut whole, &mut rates_present, &mut rates) };
-    present.iter().chain(&rates_present).sum()
+    let mut v = Values::default();
+    unsafe { brine_descriptor(s.as_ptr(), s.len(), &mut v.kind, &mut v.bits) };
+    v.count()
 }
 
-/// A frame's values, as a call writes them out.
+/// A list of values, as a call writes them out.
 #[derive(Default)]
 pub struct Values {
-    pub present: [u64; 19],
-    pub whole: [u64; 9],
-    pub singles: [f32; 6],
-    pub doubles: [f64; 8],
+    pub kind: [u64; 32],
+    pub bits: [u64; 32],
+}
+
+impl Values {
+    /// How many are there.
+    fn count(&self) -> u64 {
+        self.kind.iter().filter(|kind| **kind != 0).count() as u64
+    }
 }
 
 /// The values in ARRI's 256 bytes.
 pub fn of_dynamic(block: &[u8]) -> Values {
     let mut v = Values::default();
-    let Values { present, whole, singles, doubles } = &mut v;
-    unsafe { brine_of_dynamic(block.as_ptr(), block.len(), present, whole, singles, doubles) };
+    unsafe { brine_of_dynamic(block.as_ptr(), block.len(), &mut v.kind, &mut v.bits) };
     v
 }
 
 /// The values in an ALEXA 35's element.
 pub fn of_alexa35(element: &[u8]) -> Values {
     let mut v = Values::default();
-    let Values { present, whole, singles, doubles } = &mut v;
-    unsafe { brine_of_alexa35(element.as_ptr(), element.len(), present, whole, singles, doubles) };
+    unsafe { brine_of_alexa35(element.as_ptr(), element.len(), &mut v.kind, &mut v.bits) };
     v
 }
 
 /// How many fields of Canon's packs have a value.
 pub fn camera_fields(s: &[u8]) -> u64 {
-    let (mut kind, mut whole, mut floats) = ([0; 31], [0; 31], [0.0; 31]);
-    unsafe { brine_camera(s.as_ptr(), s.len(), &mut kind, &mut whole, &mut floats) };
-    kind.iter().filter(|kind| **kind != 0).count() as u64
+    let mut v = Values::default();
+    unsafe { brine_camera(s.as_ptr(), s.len(), &mut v.kind, &mut v.bits) };
+    v.count()
 }
 
 /// Puts records of the finished walk of all of s into lent room, three places each: how many, and the next cursor.

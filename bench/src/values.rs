@@ -5,6 +5,7 @@ use oracle::arri::mxf::reach as arri;
 use oracle::canon::mxf_packs::reach as canon;
 
 use crate::inputs::Random;
+use crate::places::{FRAME_EXPOSURE_TIME, FRAME_FOCAL_LENGTH};
 use crate::port;
 use crate::rows::{Row, kept};
 use crate::tables::row;
@@ -17,8 +18,8 @@ pub fn rows(rows: &mut Vec<Row>) {
         "of_dynamic",
         Some(1.0),
         move || {
-            let values = port::of_dynamic(block);
-            bits(values.singles[0], values.doubles[0])
+            let bits = port::of_dynamic(block).bits;
+            bits[FRAME_FOCAL_LENGTH] ^ bits[FRAME_EXPOSURE_TIME]
         },
         move || {
             let frame = arri::of_dynamic(block);
@@ -31,8 +32,8 @@ pub fn rows(rows: &mut Vec<Row>) {
             name,
             Some(1.0),
             move || {
-                let values = port::of_alexa35(s);
-                bits(values.singles[0], values.doubles[0])
+                let bits = port::of_alexa35(s).bits;
+                bits[FRAME_FOCAL_LENGTH] ^ bits[FRAME_EXPOSURE_TIME]
             },
             move || {
                 let frame = arri::of_alexa35(s);

@@ -41,41 +41,33 @@ static void tell_payload(const struct upload *u, const uint64_t frame[8])
     printf(" payload %" PRIu64 "%s", length, status == BRINE_NO_ROOM ? " refused 3" : "");
 }
 
-/* Tells a figure that is there. */
-static void tell_figure(uint64_t present, const char *name, double figure)
+/* Tells a value that is there by what it is. */
+static void tell_value(const char *name, uint64_t kind, uint64_t bits)
 {
-    if (present == BRINE_FOUND)
-        printf(" %s %.3f", name, figure);
-}
-
-/* Tells a whole number that is there. */
-static void tell_whole(bool present, const char *name, uint64_t number)
-{
-    if (present)
-        printf(" %s %" PRIu64, name, number);
+    switch (kind) {
+    case BRINE_KIND_F32: printf(" %s %.3f", name, brine_float(bits)); break;
+    case BRINE_KIND_F64: printf(" %s %.3f", name, brine_double(bits)); break;
+    case BRINE_KIND_WHOLE: printf(" %s %" PRIu64, name, bits); break;
+    case BRINE_KIND_LINEAR: printf(" linear-%s %" PRIu64, name, bits); break;
+    case BRINE_KIND_INFINITY: printf(" %s infinity", name); break;
+    }
 }
 
 /* Tells the lens, focus, exposure and tilt of an ARRI frame, what there is of them. */
 static void tell_values(const struct upload *u, const uint64_t frame[8])
 {
-    uint64_t found, present[19], whole[9];
-    float singles[6];
-    double doubles[8];
-    brine_arri_values(u->bytes, u->arrived, frame + 2, &found, present, whole, singles, doubles);
+    static const char *const names[BRINE_VALUES] = {
+        [BRINE_FRAME_FOCAL_LENGTH] = "focal", [BRINE_FRAME_FOCUS_DISTANCE] = "focus", [BRINE_FRAME_T_STOP] = "stop",
+        [BRINE_FRAME_EXPOSURE_TIME] = "exposure", [BRINE_FRAME_SHUTTER_ANGLE] = "shutter", [BRINE_FRAME_TILT] = "tilt",
+        [BRINE_FRAME_ROLL] = "roll", [BRINE_FRAME_EXPOSURE_INDEX] = "index", [BRINE_FRAME_WHITE_BALANCE] = "balance",
+    };
+    uint64_t found, kind[BRINE_VALUES], bits[BRINE_VALUES];
+    brine_arri_values(u->bytes, u->arrived, frame + 2, &found, kind, bits);
     if (found == BRINE_NOTHING)
         printf(" no values");
-    tell_figure(present[BRINE_FOCAL_LENGTH], "focal", singles[0]);
-    tell_figure(present[BRINE_FOCUS_DISTANCE], "focus", singles[1]);
-    if (present[BRINE_FOCUS_DISTANCE] == BRINE_INFINITY)
-        printf(" focus infinity");
-    tell_figure(present[BRINE_T_STOP], "stop", singles[2]);
-    tell_whole(present[BRINE_T_STOP] == BRINE_LINEAR, "linear-stop", whole[0]);
-    tell_figure(present[BRINE_EXPOSURE_TIME], "exposure", doubles[0]);
-    tell_figure(present[BRINE_SHUTTER_ANGLE], "shutter", singles[3]);
-    tell_figure(present[BRINE_TILT_ROLL], "tilt", singles[4]);
-    tell_figure(present[BRINE_TILT_ROLL], "roll", singles[5]);
-    tell_whole(present[BRINE_EXPOSURE_INDEX] == BRINE_FOUND, "index", whole[1]);
-    tell_whole(present[BRINE_WHITE_BALANCE] == BRINE_FOUND, "balance", whole[2]);
+    for (int i = 0; i < BRINE_VALUES; i++)
+        if (names[i])
+            tell_value(names[i], kind[i], bits[i]);
 }
 
 /* ---- Bytes that arrive ----------------------------------------------------------------------------------------------- */

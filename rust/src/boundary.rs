@@ -3,6 +3,7 @@
 //! an array has the number of places that the call writes.
 
 use crate::Refusal;
+use crate::places::{KIND_F32, KIND_F64, KIND_WHOLE, VALUES};
 
 /// The library is for 64-bit machines: a place that it answers is a `usize`.
 const _: () = assert!(usize::BITS == 64);
@@ -12,30 +13,38 @@ pub type Stepped = [u64; 5];
 /// What a step of a frame walk wrote: found, number, place, value's place, value's length, over-long, next cursor, next number.
 pub type Framed = [u64; 8];
 
-/// A frame's values as the library writes them.
+/// A list of values as the library writes them: what each is, and its bits.
 #[derive(Default)]
 pub struct Values {
-    pub present: [u64; 19],
-    pub whole: [u64; 9],
-    pub singles: [f32; 6],
-    pub doubles: [f64; 8],
+    kind: [u64; VALUES],
+    bits: [u64; VALUES],
 }
 
-/// A descriptor as the library writes it.
-#[derive(Default)]
-pub struct Items {
-    pub present: [u64; 16],
-    pub whole: [u64; 16],
-    pub rates_present: [u64; 2],
-    pub rates: [f64; 2],
-}
+impl Values {
+    /// What the value at a place is, and its bits.
+    pub fn at(&self, place: usize) -> (u64, u64) {
+        (self.kind[place], self.bits[place])
+    }
 
-/// Canon's members as the library writes them.
-#[derive(Default)]
-pub struct Members {
-    pub kind: [u64; 31],
-    pub whole: [u64; 31],
-    pub floats: [f64; 31],
+    /// The bits of a value that is of a kind.
+    fn of(&self, kind: u64, place: usize) -> Option<u64> {
+        (self.kind[place] == kind).then_some(self.bits[place])
+    }
+
+    /// A whole number.
+    pub fn whole(&self, place: usize) -> Option<u64> {
+        self.of(KIND_WHOLE, place)
+    }
+
+    /// An `f32`.
+    pub fn single(&self, place: usize) -> Option<f32> {
+        self.of(KIND_F32, place).map(|bits| f32::from_bits(bits as u32))
+    }
+
+    /// An `f64`.
+    pub fn double(&self, place: usize) -> Option<f64> {
+        self.of(KIND_F64, place).map(f64::from_bits)
+    }
 }
 
 include!("calls.rs");
@@ -154,10 +163,10 @@ pub fn line(element: &[u8], at: usize, left: usize) -> [u64; 5] {
 }
 
 /// `brine_descriptor`.
-pub fn descriptor(s: &[u8]) -> Result<Items, Refusal> {
-    let mut i = Items::default();
-    let status = unsafe { brine_descriptor(s.as_ptr(), s.len(), &mut i.present, &mut i.whole, &mut i.rates_present, &mut i.rates) };
-    answered(status, 0, i)
+pub fn descriptor(s: &[u8]) -> Result<Values, Refusal> {
+    let mut v = Values::default();
+    let status = unsafe { brine_descriptor(s.as_ptr(), s.len(), &mut v.kind, &mut v.bits) };
+    answered(status, 0, v)
 }
 
 /// `brine_sony_step`.
@@ -184,21 +193,21 @@ pub fn canon_step(s: &[u8], end: usize, at: usize, number: u64) -> Result<Framed
 /// `brine_of_dynamic`.
 pub fn of_dynamic(block: &[u8]) -> Values {
     let mut v = Values::default();
-    unsafe { brine_of_dynamic(block.as_ptr(), block.len(), &mut v.present, &mut v.whole, &mut v.singles, &mut v.doubles) };
+    unsafe { brine_of_dynamic(block.as_ptr(), block.len(), &mut v.kind, &mut v.bits) };
     v
 }
 
 /// `brine_of_alexa35`.
 pub fn of_alexa35(element: &[u8]) -> Values {
     let mut v = Values::default();
-    unsafe { brine_of_alexa35(element.as_ptr(), element.len(), &mut v.present, &mut v.whole, &mut v.singles, &mut v.doubles) };
+    unsafe { brine_of_alexa35(element.as_ptr(), element.len(), &mut v.kind, &mut v.bits) };
     v
 }
 
 /// `brine_arri_values`, where they are found.
 pub fn arri_values(s: &[u8], frame: &[u64; 4]) -> Option<Values> {
     let (mut out, mut v) = ([0], Values::default());
-    unsafe { brine_arri_values(s.as_ptr(), s.len(), frame, &mut out, &mut v.present, &mut v.whole, &mut v.singles, &mut v.doubles) };
+    unsafe { brine_arri_values(s.as_ptr(), s.len(), frame, &mut out, &mut v.kind, &mut v.bits) };
     (out[0] == 1).then_some(v)
 }
 
@@ -210,10 +219,10 @@ pub fn package(s: &[u8], from: usize, end: usize) -> [u64; 6] {
 }
 
 /// `brine_camera`.
-pub fn camera(s: &[u8]) -> Members {
-    let mut m = Members::default();
-    unsafe { brine_camera(s.as_ptr(), s.len(), &mut m.kind, &mut m.whole, &mut m.floats) };
-    m
+pub fn camera(s: &[u8]) -> Values {
+    let mut v = Values::default();
+    unsafe { brine_camera(s.as_ptr(), s.len(), &mut v.kind, &mut v.bits) };
+    v
 }
 
 /// `brine_sequence`: where the identifiers are and what is found, the two positions.

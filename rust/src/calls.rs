@@ -20,26 +20,16 @@ unsafe extern "C" {
     fn brine_arri_block(element: *const u8, element_len: usize, out: &mut [u64; 2]) -> u32;
     fn brine_payload(element: *const u8, element_len: usize, payload: *mut u8, payload_len: usize, out: &mut [u64; 1]) -> u32;
     fn brine_line(element: *const u8, element_len: usize, at: usize, left: usize, out: &mut [u64; 5]) -> u32;
-    fn brine_descriptor(
-        s: *const u8, s_len: usize, present: &mut [u64; 16], whole: &mut [u64; 16], rates_present: &mut [u64; 2],
-        rates: &mut [f64; 2],
-    ) -> u32;
+    fn brine_descriptor(s: *const u8, s_len: usize, kind: &mut [u64; 32], bits: &mut [u64; 32]) -> u32;
     fn brine_sony_step(s: *const u8, s_len: usize, end: usize, at: usize, number: u64, out: &mut [u64; 8]) -> u32;
     fn brine_arri_step(s: *const u8, s_len: usize, end: usize, at: usize, number: u64, out: &mut [u64; 8]) -> u32;
     fn brine_canon_step(s: *const u8, s_len: usize, end: usize, at: usize, number: u64, out: &mut [u64; 8]) -> u32;
-    fn brine_of_dynamic(
-        block: *const u8, block_len: usize, present: &mut [u64; 19], whole: &mut [u64; 9], singles: &mut [f32; 6],
-        doubles: &mut [f64; 8],
-    ) -> u32;
-    fn brine_of_alexa35(
-        element: *const u8, element_len: usize, present: &mut [u64; 19], whole: &mut [u64; 9], singles: &mut [f32; 6],
-        doubles: &mut [f64; 8],
-    ) -> u32;
+    fn brine_of_dynamic(block: *const u8, block_len: usize, kind: &mut [u64; 32], bits: &mut [u64; 32]) -> u32;
+    fn brine_of_alexa35(element: *const u8, element_len: usize, kind: &mut [u64; 32], bits: &mut [u64; 32]) -> u32;
     fn brine_arri_values(
-        s: *const u8, s_len: usize, frame: &[u64; 4], out: &mut [u64; 1], present: &mut [u64; 19], whole: &mut [u64; 9],
-        singles: &mut [f32; 6], doubles: &mut [f64; 8],
+        s: *const u8, s_len: usize, frame: &[u64; 4], out: &mut [u64; 1], kind: &mut [u64; 32], bits: &mut [u64; 32],
     ) -> u32;
     fn brine_package(s: *const u8, s_len: usize, from: usize, end: usize, out: &mut [u64; 6]) -> u32;
-    fn brine_camera(s: *const u8, s_len: usize, kind: &mut [u64; 31], whole: &mut [u64; 31], floats: &mut [f64; 31]) -> u32;
+    fn brine_camera(s: *const u8, s_len: usize, kind: &mut [u64; 32], bits: &mut [u64; 32]) -> u32;
     fn brine_sequence(s: *const u8, s_len: usize, out: &mut [u64; 8], positions: &mut [i64; 2]) -> u32;
 }

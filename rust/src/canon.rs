@@ -12,6 +12,7 @@
 //! ```
 
 use crate::boundary;
+use crate::places::*;
 use crate::record::{Record, part};
 
 /// The Private Camera Metadata of a package set.
@@ -73,74 +74,75 @@ pub enum Value {
 
 /// The members of a camera's metadata.
 #[derive(Clone, Copy, PartialEq, Eq, Debug)]
+#[repr(usize)]
 pub enum Member {
     /// Focal_Length, pack 1.
-    FocalLength,
+    FocalLength = CAMERA_FOCAL_LENGTH,
     /// Electric_Zoom, pack 1.
-    ElectricZoom,
+    ElectricZoom = CAMERA_ELECTRIC_ZOOM,
     /// F_Number, pack 5.
-    FNumber,
+    FNumber = CAMERA_F_NUMBER,
     /// T_Number, pack 10.
-    TNumber,
+    TNumber = CAMERA_T_NUMBER,
     /// Focal_Length_No35Conv, pack 16.
-    FocalLengthNo35Conv,
+    FocalLengthNo35Conv = CAMERA_REAL_FOCAL_LENGTH,
     /// Focal_Length_35Conv, pack 17.
-    FocalLength35Conv,
+    FocalLength35Conv = CAMERA_FOCAL_LENGTH_35,
     /// SetDistortion, pack 18.
-    SetDistortion,
+    SetDistortion = CAMERA_SET_DISTORTION,
     /// AbstatLensValue, pack 18.
-    AbstatLensValue,
+    AbstatLensValue = CAMERA_LENS_VALUE,
     /// Focus_Mode, pack 2.
-    FocusMode,
+    FocusMode = CAMERA_FOCUS_MODE,
     /// Image_Stabilizer, pack 2.
-    ImageStabilizer,
+    ImageStabilizer = CAMERA_STABILIZER,
     /// Aperture_Mode, pack 2.
-    ApertureMode,
+    ApertureMode = CAMERA_APERTURE_MODE,
     /// IR_Status, pack 8.
-    IrStatus,
+    IrStatus = CAMERA_INFRARED,
     /// HighSensitivityMode, pack 8.
-    HighSensitivityMode,
+    HighSensitivityMode = CAMERA_HIGH_SENSITIVITY,
     /// ISOMode, pack 20.
-    IsoMode,
+    IsoMode = CAMERA_ISO_MODE,
     /// Shutter_Speed, pack 3.
-    ShutterSpeed,
+    ShutterSpeed = CAMERA_SHUTTER_SPEED,
     /// Set_Mode, pack 4.
-    SetMode,
+    SetMode = CAMERA_SHUTTER_MODE,
     /// Shutter_Value, pack 4.
-    ShutterValue,
+    ShutterValue = CAMERA_SHUTTER_VALUE,
     /// WB_Mode, pack 6.
-    WbMode,
+    WbMode = CAMERA_BALANCE_MODE,
     /// WB_Preset, pack 6.
-    WbPreset,
+    WbPreset = CAMERA_BALANCE_PRESET,
     /// Accurate_Flag, pack 6.
-    AccurateFlag,
+    AccurateFlag = CAMERA_BALANCE_ACCURATE,
     /// Color_Temperature, pack 6.
-    ColorTemperature,
+    ColorTemperature = CAMERA_TEMPERATURE,
     /// Isotemperature_Line_Index, pack 6.
-    IsotemperatureLineIndex,
+    IsotemperatureLineIndex = CAMERA_ISOTEMPERATURE,
     /// Gain_Mode, packs 7 and 11.
-    GainMode,
+    GainMode = CAMERA_GAIN_MODE,
     /// Gain, packs 7 and 11.
-    Gain,
+    Gain = CAMERA_GAIN_LEVEL,
     /// ND_Filter, packs 7 and 11.
-    NdFilter,
+    NdFilter = CAMERA_ND_FILTER,
     /// ISO_Speed, pack 9.
-    IsoSpeed,
+    IsoSpeed = CAMERA_ISO_SPEED,
     /// BaseISO, pack 19.
-    BaseIso,
+    BaseIso = CAMERA_BASE_ISO,
     /// Camera_D_Range, pack 12.
-    CameraDRange,
+    CameraDRange = CAMERA_DYNAMIC_RANGE,
     /// Base_Gamma_D_Range, pack 13.
-    BaseGammaDRange,
+    BaseGammaDRange = CAMERA_BASE_GAMMA,
     /// VFX_Tilt, pack 14.
-    VfxTilt,
+    VfxTilt = CAMERA_TILT,
     /// VFX_Roll, pack 15.
-    VfxRoll,
+    VfxRoll = CAMERA_ROLL,
 }
 
 /// A camera's metadata.
 #[derive(Clone, Copy, PartialEq, Debug)]
-pub struct Camera([Option<Value>; 31]);
+pub struct Camera([Option<Value>; VALUES]);
 
 impl Camera {
     /// A member's value, where it has one.
@@ -168,25 +170,25 @@ impl Camera {
 /// assert_eq!(camera.get(Member::SetDistortion), None, "a partial pack is dropped");
 /// ```
 pub fn camera_metadata(data: &[u8]) -> Camera {
-    let m = boundary::camera(data);
-    Camera(std::array::from_fn(|i| value(m.kind[i], m.whole[i], m.floats[i])))
+    let v = boundary::camera(data);
+    Camera(std::array::from_fn(|place| value(v.at(place))))
 }
 
-/// The value that a kind, a number and a figure say.
-fn value(kind: u64, whole: u64, float: f64) -> Option<Value> {
+/// The value that a kind and its bits say.
+fn value((kind, bits): (u64, u64)) -> Option<Value> {
     Some(match kind {
-        0 => return None,
-        1 => Value::Code(whole as u8),
-        2 => Value::Whole(whole as u32),
-        3 => Value::Signed(whole as i16),
-        4 => Value::Float(float),
-        5 => Value::Flag(whole == 1),
-        6 => Value::Off,
-        7 => Value::Close,
-        8 => Value::Others,
-        9 => Value::Auto,
-        10 => Value::Manual,
-        11 => Value::Reserved,
+        KIND_NOTHING => return None,
+        KIND_CODE => Value::Code(bits as u8),
+        KIND_WHOLE => Value::Whole(bits as u32),
+        KIND_SIGNED => Value::Signed(bits as i16),
+        KIND_F64 => Value::Float(f64::from_bits(bits)),
+        KIND_FLAG => Value::Flag(bits == 1),
+        KIND_OFF => Value::Off,
+        KIND_CLOSE => Value::Close,
+        KIND_OTHERS => Value::Others,
+        KIND_AUTO => Value::Auto,
+        KIND_MANUAL => Value::Manual,
+        KIND_RESERVED => Value::Reserved,
         _ => unreachable!("{kind} is no kind of value"),
     })
 }
@@ -230,8 +232,8 @@ mod tests {
     #[test]
     fn nothing_is_found_in_nothing() {
         assert_eq!(package_metadata(&[]).count(), 0);
-        assert_eq!(camera_metadata(&[]), Camera([None; 31]));
-        assert_eq!(camera_metadata(&[255]), Camera([None; 31]));
+        assert_eq!(camera_metadata(&[]), Camera([None; VALUES]));
+        assert_eq!(camera_metadata(&[255]), Camera([None; VALUES]));
         assert_eq!(stream_file_sequence_info(&[]), Sequence::default());
     }
 

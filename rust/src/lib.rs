@@ -33,6 +33,7 @@ mod boundary;
 pub mod canon;
 pub mod frames;
 pub mod items;
+mod places;
 pub mod record;
 pub mod tables;
 pub mod values;

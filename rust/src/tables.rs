@@ -12,6 +12,7 @@
 //! ```
 
 use crate::boundary;
+use crate::places::*;
 use crate::record::{Refusal, part};
 
 /// The header part of a file whose first bytes are `buffer`, as far as these have it.
@@ -167,23 +168,26 @@ impl Descriptor {
     /// # Ok::<(), Refusal>(())
     /// ```
     pub fn parse_set(set: &[u8]) -> Result<Self, Refusal> {
-        let items = boundary::descriptor(set)?;
-        let whole = |i: usize| (items.present[i] == 1).then_some(items.whole[i]);
-        let rate = |i: usize| (items.rates_present[i] == 1).then_some(items.rates[i]);
-        let area = |i| Area { height: whole(i), width: whole(i + 1), x_offset: whole(i + 2), y_offset: whole(i + 3) };
+        let v = boundary::descriptor(set)?;
+        let area = |[height, width, x, y]: [usize; 4]| Area {
+            height: v.whole(height),
+            width: v.whole(width),
+            x_offset: v.whole(x),
+            y_offset: v.whole(y),
+        };
         Ok(Descriptor {
-            duration: whole(0),
-            timecode_base: whole(1),
-            start_timecode: whole(2),
-            drop_frame: whole(3),
-            sample_rate: rate(0),
-            container_duration: whole(4),
-            stored_height: whole(5),
-            stored_width: whole(6),
-            sampled: area(7),
-            display: area(11),
-            aspect_ratio: rate(1),
-            color_range: whole(15),
+            duration: v.whole(DESCRIPTOR_DURATION),
+            timecode_base: v.whole(DESCRIPTOR_TIMECODE_BASE),
+            start_timecode: v.whole(DESCRIPTOR_START_TIMECODE),
+            drop_frame: v.whole(DESCRIPTOR_DROP_FRAME),
+            sample_rate: v.double(DESCRIPTOR_SAMPLE_RATE),
+            container_duration: v.whole(DESCRIPTOR_CONTAINER_DURATION),
+            stored_height: v.whole(DESCRIPTOR_STORED_HEIGHT),
+            stored_width: v.whole(DESCRIPTOR_STORED_WIDTH),
+            sampled: area([DESCRIPTOR_SAMPLED_HEIGHT, DESCRIPTOR_SAMPLED_WIDTH, DESCRIPTOR_SAMPLED_X_OFFSET, DESCRIPTOR_SAMPLED_Y_OFFSET]),
+            display: area([DESCRIPTOR_DISPLAY_HEIGHT, DESCRIPTOR_DISPLAY_WIDTH, DESCRIPTOR_DISPLAY_X_OFFSET, DESCRIPTOR_DISPLAY_Y_OFFSET]),
+            aspect_ratio: v.double(DESCRIPTOR_ASPECT_RATIO),
+            color_range: v.whole(DESCRIPTOR_COLOR_RANGE),
         })
     }
 }

@@ -17,6 +17,7 @@
 
 use crate::boundary::{self, Values};
 use crate::frames::Frame;
+use crate::places::*;
 
 /// A focus distance.
 #[derive(Clone, Copy, PartialEq, Debug)]
@@ -89,51 +90,59 @@ pub struct FrameValues {
 impl FrameValues {
     /// The values that the library wrote, at the places that include/brinethimble.h gives them.
     fn written(v: &Values) -> Self {
-        let there = |i: usize| v.present[i] == 1;
-        let single = |i, at: usize| there(i).then_some(v.singles[at]);
-        let double = |i, at: usize| there(i).then_some(v.doubles[at]);
-        let low = |i, at: usize| there(i).then_some(v.whole[at] as u32);
+        let low = |place| v.whole(place).map(|n| n as u32);
         FrameValues {
-            focal_length: single(0, 0),
-            focus_distance: distance(v),
-            t_stop: t_stop(v),
-            exposure_time: double(3, 0),
-            shutter_angle: single(4, 3),
-            tilt_roll: single(5, 4).zip(single(5, 5)),
-            exposure_index: low(6, 1),
-            white_balance: low(7, 2),
-            nd_density: double(8, 1),
-            effective_focal_length: double(9, 2),
-            white_balance_factors: there(10).then_some([v.doubles[3], v.doubles[4], v.doubles[5]]),
+            focal_length: v.single(FRAME_FOCAL_LENGTH),
+            focus_distance: distance(v.at(FRAME_FOCUS_DISTANCE)),
+            t_stop: t_stop(v.at(FRAME_T_STOP)),
+            exposure_time: v.double(FRAME_EXPOSURE_TIME),
+            shutter_angle: v.single(FRAME_SHUTTER_ANGLE),
+            tilt_roll: v.single(FRAME_TILT).zip(v.single(FRAME_ROLL)),
+            exposure_index: low(FRAME_EXPOSURE_INDEX),
+            white_balance: low(FRAME_WHITE_BALANCE),
+            nd_density: v.double(FRAME_ND_DENSITY),
+            effective_focal_length: v.double(FRAME_EFFECTIVE_FOCAL_LENGTH),
+            white_balance_factors: factors(v),
             encoders: encoders(v),
-            tint: double(17, 6),
-            sensor_rate: double(18, 7),
+            tint: v.double(FRAME_TINT),
+            sensor_rate: v.double(FRAME_SENSOR_RATE),
         }
     }
 }
 
-/// The focus distance that the library wrote.
-fn distance(v: &Values) -> Option<Distance> {
-    match v.present[1] {
-        0 => None,
-        1 => Some(Distance::Metres(v.singles[1])),
-        _ => Some(Distance::Infinity),
+/// The focus distance that a kind and its bits say.
+fn distance((kind, bits): (u64, u64)) -> Option<Distance> {
+    match kind {
+        KIND_F32 => Some(Distance::Metres(f32::from_bits(bits as u32))),
+        KIND_INFINITY => Some(Distance::Infinity),
+        _ => None,
     }
 }
 
-/// The T-stop that the library wrote.
-fn t_stop(v: &Values) -> Option<TStop> {
-    match v.present[2] {
-        0 => None,
-        1 => Some(TStop::Is(v.singles[2])),
-        _ => Some(TStop::Linear(v.whole[0] as u32)),
+/// The T-stop that a kind and its bits say.
+fn t_stop((kind, bits): (u64, u64)) -> Option<TStop> {
+    match kind {
+        KIND_F32 => Some(TStop::Is(f32::from_bits(bits as u32))),
+        KIND_LINEAR => Some(TStop::Linear(bits as u32)),
+        _ => None,
     }
+}
+
+/// The factors on red, green and blue that the library wrote, which come together.
+fn factors(v: &Values) -> Option<[f64; 3]> {
+    Some([v.double(FRAME_RED)?, v.double(FRAME_GREEN)?, v.double(FRAME_BLUE)?])
 }
 
 /// The encoders that the library wrote.
 fn encoders(v: &Values) -> Encoders {
-    let raw = |i: usize| (v.present[11 + i] == 1).then_some(v.whole[3 + i]);
-    Encoders { focus_lds: raw(0), focus_motor: raw(1), zoom_lds: raw(2), zoom_motor: raw(3), iris_lds: raw(4), iris_motor: raw(5) }
+    Encoders {
+        focus_lds: v.whole(FRAME_FOCUS_LDS),
+        focus_motor: v.whole(FRAME_FOCUS_MOTOR),
+        zoom_lds: v.whole(FRAME_ZOOM_LDS),
+        zoom_motor: v.whole(FRAME_ZOOM_MOTOR),
+        iris_lds: v.whole(FRAME_IRIS_LDS),
+        iris_motor: v.whole(FRAME_IRIS_MOTOR),
+    }
 }
 
 /// The values in an ALEXA Mini's 256 bytes ([`crate::dynamic_metadata`]). Fewer bytes are read as far as they go.

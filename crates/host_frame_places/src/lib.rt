@@ -1,10 +1,10 @@
-// The places that a host's arrays have for the values of a frame: include/brinethimble.h, "Frame values". A value that is
-// there has a code in one array and its figure in the array of its type; the rest is 0.
+// The values of a frame at their places of a host's two arrays: include/brinethimble.h, BRINE_FRAME_*.
 ghost use mathlib.Core.Path.{_≡_};
-ghost use Rattle.host_frame_places.specs.Places.{singleCode, doubleCode, whole32Code, whole64Code, distanceCode, tStopCode, tiltRollCode, factorsCode, linearFigure, whole32Figure, whole64Figure, singleFigure, distanceFigure, tStopFigure, tiltFigure, rollFigure, doubleFigure, redFigure, greenFigure, blueFigure, sixOf, presentPlaces, wholePlaces, singlePlaces, doublePlaces};
+ghost use lib.ListN.{take, drop};
+ghost use Rattle.host_slots.specs.Slots.{kinds, patterns};
+ghost use Rattle.host_frame_places.specs.Places.{singleSlot, doubleSlot, whole32Slot, whole64Slot, distanceSlot, tStopSlot, tiltSlot, rollSlot, redSlot, greenSlot, blueSlot, frameSlots};
 use frame_values::Distance;
 use frame_values::Double;
-use frame_values::Encoders;
 use frame_values::Factors;
 use frame_values::Frame;
 use frame_values::Single;
@@ -12,265 +12,131 @@ use frame_values::TStop;
 use frame_values::TiltRoll;
 use frame_values::Whole32;
 use frame_values::Whole64;
+use host_slots::INFINITY;
+use host_slots::LINEAR;
+use host_slots::Slot;
+use host_slots::WHOLE;
+use host_slots::double;
+use host_slots::nothing;
+use host_slots::of_kind;
+use host_slots::put;
+use host_slots::single;
 
-// Whether an f32 is there.
-fn single_code(v: Single) -> u64
-    ensures { λ r. ⌜ r ≡ singleCode v ⌝ }
+// An f32, where there is one.
+fn single_slot(v: Single) -> Slot
+    ensures { λ r. ⌜ r ≡ singleSlot v ⌝ }
 {
     match v {
-        Single::Is(_) => 1,
-        Single::Nothing => 0,
+        Single::Is(x) => single(x),
+        Single::Nothing => nothing(),
     }
 }
 
-// Whether an f64 is there.
-fn double_code(v: Double) -> u64
-    ensures { λ r. ⌜ r ≡ doubleCode v ⌝ }
+// An f64.
+fn double_slot(v: Double) -> Slot
+    ensures { λ r. ⌜ r ≡ doubleSlot v ⌝ }
 {
     match v {
-        Double::Is(_) => 1,
-        Double::Nothing => 0,
+        Double::Is(x) => double(x),
+        Double::Nothing => nothing(),
     }
 }
 
-// Whether a u32 is there.
-fn whole32_code(v: Whole32) -> u64
-    ensures { λ r. ⌜ r ≡ whole32Code v ⌝ }
+// A u32.
+fn whole32_slot(v: Whole32) -> Slot
+    ensures { λ r. ⌜ r ≡ whole32Slot v ⌝ }
 {
     match v {
-        Whole32::Is(_) => 1,
-        Whole32::Nothing => 0,
+        Whole32::Is(n) => of_kind(WHOLE, n as u64),
+        Whole32::Nothing => nothing(),
     }
 }
 
-// Whether a u64 is there.
-fn whole64_code(v: Whole64) -> u64
-    ensures { λ r. ⌜ r ≡ whole64Code v ⌝ }
+// A u64.
+fn whole64_slot(v: Whole64) -> Slot
+    ensures { λ r. ⌜ r ≡ whole64Slot v ⌝ }
 {
     match v {
-        Whole64::Is(_) => 1,
-        Whole64::Nothing => 0,
+        Whole64::Is(n) => of_kind(WHOLE, n),
+        Whole64::Nothing => nothing(),
     }
 }
 
-// A distance's code: 2 for infinity.
-fn distance_code(v: Distance) -> u64
-    ensures { λ r. ⌜ r ≡ distanceCode v ⌝ }
+// A distance in metres, or infinite.
+fn distance_slot(v: Distance) -> Slot
+    ensures { λ r. ⌜ r ≡ distanceSlot v ⌝ }
 {
     match v {
-        Distance::Metres(_) => 1,
-        Distance::Infinity => 2,
-        Distance::Nothing => 0,
+        Distance::Metres(x) => single(x),
+        Distance::Infinity => of_kind(INFINITY, 0),
+        Distance::Nothing => nothing(),
     }
 }
 
-// A T-stop's code: 2 for a number on the linear scale.
-fn t_stop_code(v: TStop) -> u64
-    ensures { λ r. ⌜ r ≡ tStopCode v ⌝ }
+// A T-stop, or its number on the linear scale.
+fn t_stop_slot(v: TStop) -> Slot
+    ensures { λ r. ⌜ r ≡ tStopSlot v ⌝ }
 {
     match v {
-        TStop::Is(_) => 1,
-        TStop::Linear(_) => 2,
-        TStop::Nothing => 0,
-    }
-}
-
-// Whether tilt and roll are there.
-fn tilt_roll_code(v: TiltRoll) -> u64
-    ensures { λ r. ⌜ r ≡ tiltRollCode v ⌝ }
-{
-    match v {
-        TiltRoll::Are(_) => 1,
-        TiltRoll::Nothing => 0,
-    }
-}
-
-// Whether white balance factors are there.
-fn factors_code(v: Factors) -> u64
-    ensures { λ r. ⌜ r ≡ factorsCode v ⌝ }
-{
-    match v {
-        Factors::Are(_) => 1,
-        Factors::Nothing => 0,
-    }
-}
-
-// A T-stop's number on the linear scale.
-fn linear_figure(v: TStop) -> u64
-    ensures { λ r. ⌜ r ≡ linearFigure v ⌝ }
-{
-    match v {
-        TStop::Is(_) => 0,
-        TStop::Linear(n) => n as u64,
-        TStop::Nothing => 0,
-    }
-}
-
-// A u32's number.
-fn whole32_figure(v: Whole32) -> u64
-    ensures { λ r. ⌜ r ≡ whole32Figure v ⌝ }
-{
-    match v {
-        Whole32::Is(n) => n as u64,
-        Whole32::Nothing => 0,
-    }
-}
-
-// A u64's number.
-fn whole64_figure(v: Whole64) -> u64
-    ensures { λ r. ⌜ r ≡ whole64Figure v ⌝ }
-{
-    match v {
-        Whole64::Is(n) => n,
-        Whole64::Nothing => 0,
-    }
-}
-
-// An f32's figure.
-fn single_figure(v: Single) -> f32
-    ensures { λ r. ⌜ r ≡ singleFigure v ⌝ }
-{
-    match v {
-        Single::Is(x) => x,
-        Single::Nothing => 0.0,
-    }
-}
-
-// A distance's figure, in metres.
-fn distance_figure(v: Distance) -> f32
-    ensures { λ r. ⌜ r ≡ distanceFigure v ⌝ }
-{
-    match v {
-        Distance::Metres(x) => x,
-        Distance::Infinity => 0.0,
-        Distance::Nothing => 0.0,
-    }
-}
-
-// A T-stop's figure.
-fn t_stop_figure(v: TStop) -> f32
-    ensures { λ r. ⌜ r ≡ tStopFigure v ⌝ }
-{
-    match v {
-        TStop::Is(x) => x,
-        TStop::Linear(_) => 0.0,
-        TStop::Nothing => 0.0,
+        TStop::Is(x) => single(x),
+        TStop::Linear(n) => of_kind(LINEAR, n as u64),
+        TStop::Nothing => nothing(),
     }
 }
 
 // The tilt.
-fn tilt_figure(v: TiltRoll) -> f32
-    ensures { λ r. ⌜ r ≡ tiltFigure v ⌝ }
+fn tilt_slot(v: TiltRoll) -> Slot
+    ensures { λ r. ⌜ r ≡ tiltSlot v ⌝ }
 {
     match v {
-        TiltRoll::Are(a) => a.tilt,
-        TiltRoll::Nothing => 0.0,
+        TiltRoll::Are(a) => single(a.tilt),
+        TiltRoll::Nothing => nothing(),
     }
 }
 
 // The roll.
-fn roll_figure(v: TiltRoll) -> f32
-    ensures { λ r. ⌜ r ≡ rollFigure v ⌝ }
+fn roll_slot(v: TiltRoll) -> Slot
+    ensures { λ r. ⌜ r ≡ rollSlot v ⌝ }
 {
     match v {
-        TiltRoll::Are(a) => a.roll,
-        TiltRoll::Nothing => 0.0,
-    }
-}
-
-// An f64's figure.
-fn double_figure(v: Double) -> f64
-    ensures { λ r. ⌜ r ≡ doubleFigure v ⌝ }
-{
-    match v {
-        Double::Is(x) => x,
-        Double::Nothing => 0.0,
+        TiltRoll::Are(a) => single(a.roll),
+        TiltRoll::Nothing => nothing(),
     }
 }
 
 // The factor on red.
-fn red_figure(v: Factors) -> f64
-    ensures { λ r. ⌜ r ≡ redFigure v ⌝ }
+fn red_slot(v: Factors) -> Slot
+    ensures { λ r. ⌜ r ≡ redSlot v ⌝ }
 {
     match v {
-        Factors::Are(k) => k.red,
-        Factors::Nothing => 0.0,
+        Factors::Are(k) => double(k.red),
+        Factors::Nothing => nothing(),
     }
 }
 
 // The factor on green.
-fn green_figure(v: Factors) -> f64
-    ensures { λ r. ⌜ r ≡ greenFigure v ⌝ }
+fn green_slot(v: Factors) -> Slot
+    ensures { λ r. ⌜ r ≡ greenSlot v ⌝ }
 {
     match v {
-        Factors::Are(k) => k.green,
-        Factors::Nothing => 0.0,
+        Factors::Are(k) => double(k.green),
+        Factors::Nothing => nothing(),
     }
 }
 
 // The factor on blue.
-fn blue_figure(v: Factors) -> f64
-    ensures { λ r. ⌜ r ≡ blueFigure v ⌝ }
+fn blue_slot(v: Factors) -> Slot
+    ensures { λ r. ⌜ r ≡ blueSlot v ⌝ }
 {
     match v {
-        Factors::Are(k) => k.blue,
-        Factors::Nothing => 0.0,
+        Factors::Are(k) => double(k.blue),
+        Factors::Nothing => nothing(),
     }
 }
 
-// The places of the six encoders.
-pub struct Six {
-    pub focus_lds: u64,
-    pub focus_motor: u64,
-    pub zoom_lds: u64,
-    pub zoom_motor: u64,
-    pub iris_lds: u64,
-    pub iris_motor: u64,
-}
-
-// Which encoders are there.
-fn encoder_codes(e: Encoders) -> Six
-    ensures { λ r. ⌜ r ≡ sixOf whole64Code e ⌝ }
-{
-    let focus_lds = e.focus_lds;
-    let focus_motor = e.focus_motor;
-    let zoom_lds = e.zoom_lds;
-    let zoom_motor = e.zoom_motor;
-    let iris_lds = e.iris_lds;
-    let iris_motor = e.iris_motor;
-    Six {
-        focus_lds: whole64_code(focus_lds),
-        focus_motor: whole64_code(focus_motor),
-        zoom_lds: whole64_code(zoom_lds),
-        zoom_motor: whole64_code(zoom_motor),
-        iris_lds: whole64_code(iris_lds),
-        iris_motor: whole64_code(iris_motor),
-    }
-}
-
-// The encoders' numbers.
-fn encoder_figures(e: Encoders) -> Six
-    ensures { λ r. ⌜ r ≡ sixOf whole64Figure e ⌝ }
-{
-    let focus_lds = e.focus_lds;
-    let focus_motor = e.focus_motor;
-    let zoom_lds = e.zoom_lds;
-    let zoom_motor = e.zoom_motor;
-    let iris_lds = e.iris_lds;
-    let iris_motor = e.iris_motor;
-    Six {
-        focus_lds: whole64_figure(focus_lds),
-        focus_motor: whole64_figure(focus_motor),
-        zoom_lds: whole64_figure(zoom_lds),
-        zoom_motor: whole64_figure(zoom_motor),
-        iris_lds: whole64_figure(iris_lds),
-        iris_motor: whole64_figure(iris_motor),
-    }
-}
-
-// Puts each field's code.
-pub fn put_present(f: Frame, present: &mut [u64; 19])
-    ensures { λ r. ⌜ now (present .exit) ≡ presentPlaces f ⌝ }
+// The first eight.
+fn first_eight(f: Frame) -> [Slot; 8]
+    ensures { λ r. ⌜ r ≡ take 8 (frameSlots f) ⌝ }
 {
     let focal_length = f.focal_length;
     let focus_distance = f.focus_distance;
@@ -279,94 +145,78 @@ pub fn put_present(f: Frame, present: &mut [u64; 19])
     let shutter_angle = f.shutter_angle;
     let tilt_roll = f.tilt_roll;
     let exposure_index = f.exposure_index;
+    [
+        single_slot(focal_length),
+        distance_slot(focus_distance),
+        t_stop_slot(t_stop),
+        double_slot(exposure_time),
+        single_slot(shutter_angle),
+        tilt_slot(tilt_roll),
+        roll_slot(tilt_roll),
+        whole32_slot(exposure_index),
+    ]
+}
+
+// The second eight.
+fn second_eight(f: Frame) -> [Slot; 8]
+    ensures { λ r. ⌜ r ≡ take 8 (drop 8 (frameSlots f)) ⌝ }
+{
+    let e = f.encoders;
     let white_balance = f.white_balance;
     let nd_density = f.nd_density;
     let effective_focal_length = f.effective_focal_length;
     let white_balance_factors = f.white_balance_factors;
-    let encoders = encoder_codes(f.encoders);
+    let focus_lds = e.focus_lds;
+    let focus_motor = e.focus_motor;
+    [
+        whole32_slot(white_balance),
+        double_slot(nd_density),
+        double_slot(effective_focal_length),
+        red_slot(white_balance_factors),
+        green_slot(white_balance_factors),
+        blue_slot(white_balance_factors),
+        whole64_slot(focus_lds),
+        whole64_slot(focus_motor),
+    ]
+}
+
+// The third eight.
+fn third_eight(f: Frame) -> [Slot; 8]
+    ensures { λ r. ⌜ r ≡ take 8 (drop 16 (frameSlots f)) ⌝ }
+{
+    let e = f.encoders;
+    let zoom_lds = e.zoom_lds;
+    let zoom_motor = e.zoom_motor;
+    let iris_lds = e.iris_lds;
+    let iris_motor = e.iris_motor;
     let tint = f.tint;
     let sensor_rate = f.sensor_rate;
-    *present = [
-        single_code(focal_length),
-        distance_code(focus_distance),
-        t_stop_code(t_stop),
-        double_code(exposure_time),
-        single_code(shutter_angle),
-        tilt_roll_code(tilt_roll),
-        whole32_code(exposure_index),
-        whole32_code(white_balance),
-        double_code(nd_density),
-        double_code(effective_focal_length),
-        factors_code(white_balance_factors),
-        encoders.focus_lds,
-        encoders.focus_motor,
-        encoders.zoom_lds,
-        encoders.zoom_motor,
-        encoders.iris_lds,
-        encoders.iris_motor,
-        double_code(tint),
-        double_code(sensor_rate),
-    ];
+    let none = nothing();
+    [
+        whole64_slot(zoom_lds),
+        whole64_slot(zoom_motor),
+        whole64_slot(iris_lds),
+        whole64_slot(iris_motor),
+        double_slot(tint),
+        double_slot(sensor_rate),
+        none,
+        none,
+    ]
 }
 
-// Puts the whole numbers.
-pub fn put_whole(f: Frame, whole: &mut [u64; 9])
-    ensures { λ r. ⌜ now (whole .exit) ≡ wholePlaces f ⌝ }
+// Puts all values of a frame.
+pub fn put_frame(f: Frame, kind: &mut [u64; 32], bits: &mut [u64; 32])
+    ensures { λ r. ⌜ now (kind .exit) ≡ kinds (frameSlots f) ⌝ }
+    ensures { λ r. ⌜ now (bits .exit) ≡ patterns (frameSlots f) ⌝ }
 {
-    let t_stop = f.t_stop;
-    let exposure_index = f.exposure_index;
-    let white_balance = f.white_balance;
-    let encoders = encoder_figures(f.encoders);
-    *whole = [
-        linear_figure(t_stop),
-        whole32_figure(exposure_index),
-        whole32_figure(white_balance),
-        encoders.focus_lds,
-        encoders.focus_motor,
-        encoders.zoom_lds,
-        encoders.zoom_motor,
-        encoders.iris_lds,
-        encoders.iris_motor,
-    ];
-}
-
-// Puts the f32s.
-pub fn put_singles(f: Frame, singles: &mut [f32; 6])
-    ensures { λ r. ⌜ now (singles .exit) ≡ singlePlaces f ⌝ }
-{
-    let focal_length = f.focal_length;
-    let focus_distance = f.focus_distance;
-    let t_stop = f.t_stop;
-    let shutter_angle = f.shutter_angle;
-    let tilt_roll = f.tilt_roll;
-    *singles = [
-        single_figure(focal_length),
-        distance_figure(focus_distance),
-        t_stop_figure(t_stop),
-        single_figure(shutter_angle),
-        tilt_figure(tilt_roll),
-        roll_figure(tilt_roll),
-    ];
-}
-
-// Puts the f64s.
-pub fn put_doubles(f: Frame, doubles: &mut [f64; 8])
-    ensures { λ r. ⌜ now (doubles .exit) ≡ doublePlaces f ⌝ }
-{
-    let exposure_time = f.exposure_time;
-    let nd_density = f.nd_density;
-    let effective_focal_length = f.effective_focal_length;
-    let white_balance_factors = f.white_balance_factors;
-    let tint = f.tint;
-    let sensor_rate = f.sensor_rate;
-    *doubles = [
-        double_figure(exposure_time),
-        double_figure(nd_density),
-        double_figure(effective_focal_length),
-        red_figure(white_balance_factors),
-        green_figure(white_balance_factors),
-        blue_figure(white_balance_factors),
-        double_figure(tint),
-        double_figure(sensor_rate),
-    ];
+    let none = nothing();
+    let rest = [none; 8];
+    put(
+        first_eight(f),
+        second_eight(f),
+        third_eight(f),
+        rest,
+        kind,
+        bits,
+    );
 }

@@ -1,47 +1,30 @@
 -- `host_descriptor::brine_descriptor` answers each case of what is said of the set.
 use mathlib.Core.Path.{refl, sym}
-use Rattle.host_descriptor.specs.Places.{statusOf, after}
+use mathlib.Core.List.{_++_}
+use lib.ListN.{replicate}
 use borrow.Author.Needs.{needs}
+use Rattle.host_slots.proofs.Putting.{held}
+use Rattle.host_descriptor.specs.Places.{descriptorSlots, statusOf, after}
 use Rattle.host_descriptor.proofs.brine_descriptor.Statement.{statement}
 use Rattle.host_descriptor.proofs.brine_descriptor.Tie as tie
 
-read-requires : tie.Need-read-requires
-read-requires c κs = search needs
-
-enum-known-a : tie.Need-enum-known-a
-enum-known-a c = search needs
-
-put-found-requires : tie.Need-put-found-requires
-put-found-requires c κs = search needs
-
-put-figures-requires : tie.Need-put-figures-requires
-put-figures-requires c κs = search needs
-
-put-rates-found-requires : tie.Need-put-rates-found-requires
-put-rates-found-requires c κs = search needs
-
-put-rates-requires : tie.Need-put-rates-requires
-put-rates-requires c κs = search needs
-
-enum-told : tie.Need-enum-told
-enum-told c = search needs
-
 returns : tie.Need-returns
-unfolding statusOf after
+unfolding descriptorSlots statusOf after
 returns c =
-    let c5 = c .before .before in
-    let c4 = c5 .before .before in
-    let c3 = c4 .before .before in
-    let c2 = c3 .before .before .before in
-    let c1 = c2 .before .before in
-    rw (sym (c1 .read .ensures), c2 .a .given .1) (refl, (c3 .put-found .ensures, (c4 .put-figures .ensures, (c5 .put-rates-found .ensures, c .put-rates .ensures))))
+    let c3 = c .before .before .before in
+    let c2 = c3 .before in
+    let c1 = c2 .before in
+    let none = c1 .before in
+    let known = none .before .before in
+    rw (sym (known .before .before .read .ensures), known .a .given .1)
+    (refl, held (c .put .ensures) (λ i. c1 .first-eight .ensures i ++ c2 .second-eight .ensures i ++ c3 .third-eight .ensures i ++ replicate 8 (none .nothing .ensures i)))
 
 returns-2 : tie.Need-returns-2
 unfolding statusOf after
-returns-2 c = rw (sym (c .before .before .read .ensures), c .enum-told .given .1) (refl, (refl, (refl, (refl, refl))))
+returns-2 c = rw (sym (c .before .before .read .ensures), c .enum-told .given .1) (refl, (refl, refl))
 
 pub brine-descriptor-spec : {M : Type 1} → statement M
 brine-descriptor-spec =
     tie.close
-    (tie.spec read-requires enum-known-a put-found-requires put-figures-requires put-rates-found-requires
-    put-rates-requires enum-told returns returns-2)
+    (tie.spec (λ c κs. search needs) (λ c. search needs) (λ c κs. search needs) (λ c κs. search needs) (λ c κs. search needs)
+    (λ c κs. search needs) (λ c κs. search needs) (λ c. search needs) returns returns-2)

@@ -1,33 +1,11 @@
--- `host_values::brine_of_dynamic` stores what each of its calls says.
+-- `host_values::brine_of_dynamic` puts what is read.
 use mathlib.Core.Path.{refl, sym}
 use borrow.Author.Needs.{needs}
 use Rattle.host_values.proofs.brine_of_dynamic.Statement.{statement}
 use Rattle.host_values.proofs.brine_of_dynamic.Tie as tie
 
-of-dynamic-requires : tie.Need-of-dynamic-requires
-of-dynamic-requires c κs = search needs
-
-put-present-requires : tie.Need-put-present-requires
-put-present-requires c κs = search needs
-
-put-whole-requires : tie.Need-put-whole-requires
-put-whole-requires c κs = search needs
-
-put-singles-requires : tie.Need-put-singles-requires
-put-singles-requires c κs = search needs
-
-put-doubles-requires : tie.Need-put-doubles-requires
-put-doubles-requires c κs = search needs
-
 returns : tie.Need-returns
-returns c =
-    let c4 = c .before .before in
-    let c3 = c4 .before .before in
-    let c2 = c3 .before .before in
-    let c1 = c2 .before .before in
-    rw (sym (c1 .of-dynamic .ensures)) (refl, (c2 .put-present .ensures, (c3 .put-whole .ensures, (c4 .put-singles .ensures, c .put-doubles .ensures))))
+returns c = rw (sym (c .before .before .before .of-dynamic .ensures)) (refl, c .put-frame .ensures)
 
 pub brine-of-dynamic-spec : {M : Type 1} → statement M
-brine-of-dynamic-spec =
-    tie.close
-    (tie.spec of-dynamic-requires put-present-requires put-whole-requires put-singles-requires put-doubles-requires returns)
+brine-of-dynamic-spec = tie.close (tie.spec (λ c κs. search needs) (λ c κs. search needs) returns)

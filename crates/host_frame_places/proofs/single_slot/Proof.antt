@@ -1,0 +1,11 @@
+-- `host_frame_places::single_slot` answers each case of the value.
+use borrow.Author.Needs.{needs}
+use Rattle.host_frame_places.specs.Places.{singleSlot}
+use Rattle.host_frame_places.proofs.single_slot.Statement.{statement}
+use Rattle.host_frame_places.proofs.single_slot.Tie as tie
+
+pub single-slot-spec : {M : Type 1} → statement M
+unfolding singleSlot
+single-slot-spec =
+    tie.close
+    (tie.spec (λ c. search needs) (λ c κs. search needs) (λ c. search needs) (λ c κs. search needs) (λ c. cc) (λ c. cc))

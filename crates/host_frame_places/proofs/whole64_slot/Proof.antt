@@ -1,0 +1,11 @@
+-- `host_frame_places::whole64_slot` answers each case of the value.
+use borrow.Author.Needs.{needs}
+use Rattle.host_frame_places.specs.Places.{whole64Slot}
+use Rattle.host_frame_places.proofs.whole64_slot.Statement.{statement}
+use Rattle.host_frame_places.proofs.whole64_slot.Tie as tie
+
+pub whole64-slot-spec : {M : Type 1} → statement M
+unfolding whole64Slot
+whole64-slot-spec =
+    tie.close
+    (tie.spec (λ c. search needs) (λ c κs. search needs) (λ c. search needs) (λ c κs. search needs) (λ c. cc) (λ c. cc))
