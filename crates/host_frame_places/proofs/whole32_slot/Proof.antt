@@ -9,4 +9,5 @@ unfolding whole32Slot
 whole32-slot-spec =
     tie.close
     (tie.spec (λ c. search needs) (λ c. search needs) (λ c κs. search needs) (λ c. search needs) (λ c κs. search needs)
-    (λ c. cc) (λ c. cc))
+    (λ c. rw (c .before .before .v .given .1) (c .of-kind .ensures))
+    (λ c. rw (c .before .enum-told .given .1) (c .nothing .ensures)))
