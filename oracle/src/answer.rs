@@ -1,7 +1,7 @@
-//! The answer to a line: the published Rust's where it has one, else document 01's.
+//! The answer to a line: the published Rust's where it has one, else that of document 01 or 02 read plainly.
 
 use crate::line::{Case, parse};
-use crate::{plain, words};
+use crate::{asked, plain, words};
 
 /// The answer to a line.
 pub fn answer(line: &str) -> String {
@@ -40,6 +40,6 @@ pub fn put(out: &mut String, case: &Case) {
         "package" => words::canon::package(out, bytes),
         "sequence" => words::canon::sequence(out, bytes),
         "canon" => words::canon::frames(out, bytes, number(0)),
-        word => unreachable!("{word} is no word"),
+        _ => asked::put(out, case),
     }
 }

@@ -24,7 +24,7 @@ pub fn check(count: u64, seed: u64) -> Result<u64, String> {
         let (common, walked) = common_beginning(&bytes, limit);
         extensions += walked;
         if arrived != common {
-            let case = Case { word: "arrive", numbers: vec![limit as u64], bytes };
+            let case = Case { word: "arrive", numbers: vec![limit as u64], bytes, ..Case::default() };
             return Err(format!("case: {}\nwalk: {}\ncommon to the finished lists: {}", case.line(), listed(&arrived), listed(&common)));
         }
     }

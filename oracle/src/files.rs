@@ -3,11 +3,17 @@
 use std::io::Result;
 use std::path::{Path, PathBuf};
 
+use crate::asked;
 use crate::cases::random::Random;
-use crate::line::{Case, Field, LONGEST, WORDS};
+use crate::line::{self, Case, Field, LONGEST};
 
-/// The words that take any part of a file.
-pub const TAKING: [&str; 8] = ["walk", "klvs", "arrive", "tally", "header", "sony", "arri", "canon"];
+/// The words of document 01 that take any part of a file.
+const TAKING: [&str; 8] = ["walk", "klvs", "arrive", "tally", "header", "sony", "arri", "canon"];
+
+/// Whether a word takes any part of a file.
+pub fn takes(word: &str) -> bool {
+    TAKING.contains(&word) || asked::TAKING.contains(&word)
+}
 
 /// The most bytes of a case, so that its line is none that is too long.
 pub const MOST: usize = (LONGEST - 40) / 2;
@@ -21,7 +27,7 @@ pub fn cases(folder: &Path, words: &[&str]) -> Result<Vec<String>> {
     for path in paths(folder)? {
         let bytes = std::fs::read(path)?;
         for part in parts(&bytes) {
-            lines.extend(words.iter().filter(|word| TAKING.contains(word)).map(|word| case(word, part).line()));
+            lines.extend(words.iter().filter(|word| takes(word)).map(|word| case(word, part).line()));
         }
     }
     Ok(lines)
@@ -49,9 +55,14 @@ fn parts(bytes: &[u8]) -> Vec<&[u8]> {
 
 /// The case of a word over all of a part.
 pub fn case(word: &str, part: &[u8]) -> Case {
-    let (word, fields) = WORDS.iter().find(|(name, _)| *name == word).expect("a word");
-    let number = |field: &Field| part.len() as u64 * if *field == Field::Number { 2 } else { 1 };
-    Case { word, numbers: fields.iter().map(number).collect(), bytes: part.to_vec() }
+    let (word, fields) = line::word(word).expect("a word");
+    let number = |field: &Field| match field {
+        Field::End => Some(part.len() as u64),
+        Field::Number => Some(2 * part.len() as u64),
+        Field::Room => Some(LONGEST as u64),
+        _ => None,
+    };
+    Case { word, numbers: fields.iter().filter_map(number).collect(), bytes: part.to_vec(), ..Case::default() }
 }
 
 #[cfg(test)]

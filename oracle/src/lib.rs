@@ -75,6 +75,7 @@ pub mod canon_codes {
 
 pub mod answer;
 pub mod arriving;
+pub mod asked;
 pub mod cases;
 pub mod compare;
 pub mod cuts;

@@ -1,68 +1,128 @@
-//! A case's line: its word, its numbers and its bytes, as docs/CASES.md has them.
+//! A case's line: its word and its fields, as docs/CASES.md has them.
+
+use crate::asked;
 
 /// The longest line that is a case, in characters.
 pub const LONGEST: usize = 65_535;
 
-/// What stands between a word and its bytes.
+/// What a field of a line is.
 #[derive(Clone, Copy, PartialEq, Eq, Debug)]
 pub enum Field {
     /// A number, or `n` for the number of bytes.
     End,
+    /// A number, or `n` for the number of the other bytes.
+    OtherEnd,
     /// A number.
     Number,
     /// 0 or 1.
     Coding,
+    /// The length of a lent output.
+    Room,
+    /// Digits that say how the bytes are cut.
+    Cut,
+    /// Numbers or operations with commas between them, `-` for none.
+    List,
+    /// 16 bytes, as the other bytes.
+    Label,
+    /// The bytes.
+    Bytes,
+    /// The other bytes.
+    Other,
 }
 
-/// Every word with its fields.
-pub const WORDS: [(&str, &[Field]); 20] = [
-    ("ber", &[]),
-    ("walk", &[Field::End]),
-    ("step", &[Field::End, Field::Number]),
-    ("klvs", &[]),
-    ("arrive", &[Field::Number]),
-    ("tally", &[]),
-    ("header", &[]),
-    ("primer", &[]),
-    ("items", &[Field::Coding]),
-    ("dynamic", &[]),
-    ("ofdynamic", &[]),
-    ("alexa", &[]),
-    ("arri", &[Field::End]),
-    ("anc", &[]),
-    ("set", &[]),
-    ("sony", &[Field::End]),
-    ("packs", &[]),
-    ("package", &[]),
-    ("sequence", &[]),
-    ("canon", &[Field::End]),
+/// A word with its fields.
+pub type Word = (&'static str, &'static [Field]);
+
+/// Every word of document 01.
+pub const WORDS: [Word; 20] = [
+    ("ber", &[Field::Bytes]),
+    ("walk", &[Field::End, Field::Bytes]),
+    ("step", &[Field::End, Field::Number, Field::Bytes]),
+    ("klvs", &[Field::Bytes]),
+    ("arrive", &[Field::Number, Field::Bytes]),
+    ("tally", &[Field::Bytes]),
+    ("header", &[Field::Bytes]),
+    ("primer", &[Field::Bytes]),
+    ("items", &[Field::Coding, Field::Bytes]),
+    ("dynamic", &[Field::Bytes]),
+    ("ofdynamic", &[Field::Bytes]),
+    ("alexa", &[Field::Bytes]),
+    ("arri", &[Field::End, Field::Bytes]),
+    ("anc", &[Field::Bytes]),
+    ("set", &[Field::Bytes]),
+    ("sony", &[Field::End, Field::Bytes]),
+    ("packs", &[Field::Bytes]),
+    ("package", &[Field::Bytes]),
+    ("sequence", &[Field::Bytes]),
+    ("canon", &[Field::End, Field::Bytes]),
 ];
 
+/// Every word, of document 01 and of 02's requests.
+pub fn words() -> impl Iterator<Item = Word> {
+    WORDS.into_iter().chain(asked::WORDS.iter().flat_map(|words| words.iter().copied()))
+}
+
+/// The word that has a name.
+pub fn word(name: &str) -> Option<Word> {
+    words().find(|(word, _)| *word == name)
+}
+
 /// A case.
-#[derive(Clone, PartialEq, Eq, Debug)]
+#[derive(Clone, Default, PartialEq, Eq, Debug)]
 pub struct Case {
     pub word: &'static str,
     pub numbers: Vec<u64>,
+    /// A cut or a list, as it stands in the line.
+    pub list: String,
     pub bytes: Vec<u8>,
+    /// A label, or the second of two files.
+    pub other: Vec<u8>,
 }
 
 impl Case {
     /// The fields of the case's word.
     pub fn fields(&self) -> &'static [Field] {
-        WORDS.iter().find(|(word, _)| *word == self.word).map_or(&[], |(_, fields)| fields)
+        word(self.word).map_or(&[], |(_, fields)| fields)
     }
 
     /// The line of the case, with every end as a number.
     pub fn line(&self) -> String {
         let mut line = String::with_capacity(40 + 2 * self.bytes.len());
         line.push_str(self.word);
-        for number in &self.numbers {
+        let mut numbers = self.numbers.iter();
+        for field in self.fields() {
             line.push(' ');
-            line.push_str(&number.to_string());
+            match field {
+                Field::Cut | Field::List => line.push_str(&self.list),
+                Field::Bytes => put_bytes(&mut line, &self.bytes),
+                Field::Label | Field::Other => put_bytes(&mut line, &self.other),
+                _ => line.push_str(&numbers.next().expect("a number for each field").to_string()),
+            }
         }
-        line.push(' ');
-        put_bytes(&mut line, &self.bytes);
         line
+    }
+
+    /// Takes a field's text, where it is no number.
+    fn take(&mut self, field: Field, text: &str) -> Option<()> {
+        match field {
+            Field::Cut | Field::List => self.list = list_of(field, text)?,
+            Field::Bytes => self.bytes = bytes_of(text)?,
+            Field::Other => self.other = bytes_of(text)?,
+            Field::Label => self.other = bytes_of(text).filter(|label| label.len() == 16)?,
+            _ => {}
+        }
+        Some(())
+    }
+
+    /// Takes a field's number, if it is one.
+    fn take_number(&mut self, field: Field, text: &str) -> Option<()> {
+        let count = match field {
+            Field::End | Field::Number | Field::Coding | Field::Room => self.bytes.len(),
+            Field::OtherEnd => self.other.len(),
+            _ => return Some(()),
+        };
+        self.numbers.push(number_of(field, text, count)?);
+        Some(())
     }
 }
 
@@ -72,26 +132,38 @@ pub fn parse(line: &str) -> Option<Case> {
         return None;
     }
     let mut parts = line.split(' ');
-    let word = parts.next()?;
-    let (word, fields) = WORDS.iter().find(|(name, _)| *name == word)?;
-    let texts: Vec<&str> = fields.iter().map(|_| parts.next()).collect::<Option<_>>()?;
-    let bytes = bytes_of(parts.next()?)?;
-    if parts.next().is_some() {
+    let (word, fields) = word(parts.next()?)?;
+    let texts: Vec<&str> = parts.collect();
+    if texts.len() != fields.len() {
         return None;
     }
-    let numbers = fields.iter().zip(texts).map(|(field, text)| number_of(*field, text, bytes.len())).collect::<Option<_>>()?;
-    Some(Case { word, numbers, bytes })
+    let mut case = Case { word, ..Case::default() };
+    fields.iter().zip(&texts).try_for_each(|(field, text)| case.take(*field, text))?;
+    fields.iter().zip(&texts).try_for_each(|(field, text)| case.take_number(*field, text))?;
+    Some(case)
+}
+
+/// A cut's digits, or a list's letters, numbers, commas and colons, `-` for an empty one.
+fn list_of(field: Field, text: &str) -> Option<String> {
+    let all = |some: fn(&u8) -> bool| text.bytes().all(|character| some(&character));
+    let good = match field {
+        Field::Cut => !text.is_empty() && all(u8::is_ascii_digit),
+        _ => text == "-" || !text.is_empty() && all(|c| c.is_ascii_digit() || c.is_ascii_lowercase() || b",:".contains(c)),
+    };
+    good.then(|| text.to_string())
 }
 
 /// The number that a field's text stands for in a case of `count` bytes.
 fn number_of(field: Field, text: &str, count: usize) -> Option<u64> {
-    if field == Field::End && text == "n" {
+    if matches!(field, Field::End | Field::OtherEnd) && text == "n" {
         return Some(count as u64);
     }
-    if !text.bytes().all(|digit| digit.is_ascii_digit()) {
-        return None;
-    }
-    text.parse().ok().filter(|number| field != Field::Coding || *number < 2)
+    digits(text).filter(|number| field != Field::Coding || *number < 2)
+}
+
+/// The number that some digits are.
+pub fn digits(text: &str) -> Option<u64> {
+    text.bytes().all(|digit| digit.is_ascii_digit()).then(|| text.parse().ok())?
 }
 
 /// The bytes that a field of hex stands for.

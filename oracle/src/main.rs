@@ -5,8 +5,7 @@ use std::path::Path;
 use std::process::exit;
 
 use oracle::compare::{Port, report, report_lines};
-use oracle::line::WORDS;
-use oracle::{answer, arriving, cases, cuts, every, files, known, record};
+use oracle::{answer, arriving, cases, cuts, every, files, known, line, record};
 
 const USAGE: &str = "\
 oracle answer                                    the Rust's answer for each line of the standard input
@@ -100,7 +99,7 @@ fn compare_cuts(words: &str, folder: &str, command: &str) -> Result<bool> {
     let mut same = true;
     for path in files::paths(Path::new(folder))? {
         let (file, name) = (std::fs::read(&path)?, path.file_name().unwrap_or_default().display());
-        for word in words_of(words)?.into_iter().filter(|word| files::TAKING.contains(word)) {
+        for word in words_of(words)?.into_iter().filter(|word| files::takes(word)) {
             let [torn, ended, damaged] = cuts::counted(&file);
             same &= report(&port, &format!("{word} {name} {torn} cuts"), || cuts::torn(word, &file))?;
             if cuts::ended(word, &file).next().is_some() {
@@ -112,11 +111,10 @@ fn compare_cuts(words: &str, folder: &str, command: &str) -> Result<bool> {
     Ok(same)
 }
 
-/// The words that a list names, with commas or spaces between them.
+/// The words that a list names, with commas, spaces or ends of lines between them.
 fn words_of(list: &str) -> Result<Vec<&'static str>> {
-    let word = |name: &str| WORDS.iter().find(|(word, _)| *word == name).map(|(word, _)| *word);
-    let words = list.split([',', ' ']).map(|name| word(name).ok_or_else(|| Error::other(format!("{name} is no word"))));
-    words.collect()
+    let word = |name: &str| line::word(name).map(|(word, _)| word).ok_or_else(|| Error::other(format!("{name} is no word")));
+    list.split([',', ' ', '\n']).filter(|name| !name.is_empty()).map(word).collect()
 }
 
 /// The port's program that a command starts.

@@ -25,7 +25,7 @@ pub fn sample(words: &[&str], count: usize, seed: u64) -> (String, String) {
 /// Whether a first line is of one of the words, or of none that there is.
 fn is_of(line: &str, words: &[&str]) -> bool {
     let word = line.split(' ').next().unwrap_or_default();
-    words.contains(&word) || !crate::line::WORDS.iter().any(|(name, _)| *name == word)
+    words.contains(&word) || crate::line::word(word).is_none()
 }
 
 /// So many different cases of a word, most of them short.

@@ -1,6 +1,7 @@
 //! Cases of each word, drawn from a seed: the case at an index is the same wherever and whenever it is drawn.
 
 mod arri;
+pub mod asked;
 mod canon;
 pub mod random;
 pub mod sketch;
@@ -10,14 +11,17 @@ mod walk;
 
 use random::Random;
 
-use crate::line::{Case, LONGEST, WORDS};
+use crate::line::{self, Case, Field, LONGEST};
 
 /// The line of the case of a word at a seed and an index.
 pub fn case(word: &str, seed: u64, index: u64) -> String {
     let mut random = Random::of(word, seed, index);
-    let (numbers, bytes) = numbers_and_bytes(word, &mut random);
-    let word = WORDS.iter().find(|(name, _)| *name == word).expect("a word").0;
-    let line = with_n(&mut random, Case { word, numbers, bytes });
+    let word = line::word(word).expect("a word").0;
+    let case = asked::case(word, &mut random).unwrap_or_else(|| {
+        let (numbers, bytes) = numbers_and_bytes(word, &mut random);
+        Case { word, numbers, bytes, ..Case::default() }
+    });
+    let line = with_n(&mut random, case);
     assert!(line.len() <= LONGEST, "a line that is too long");
     line
 }
@@ -27,7 +31,7 @@ pub fn drawn(word: &'static str, count: u64, seed: u64) -> impl Iterator<Item = 
     (0..count).map(move |index| case(word, seed, index))
 }
 
-/// The numbers and bytes of a case.
+/// The numbers and bytes of a case of document 01.
 fn numbers_and_bytes(word: &str, random: &mut Random) -> (Vec<u64>, Vec<u8>) {
     match word {
         "ber" => (vec![], walk::ber(random)),
@@ -58,18 +62,18 @@ fn numbers_and_bytes(word: &str, random: &mut Random) -> (Vec<u64>, Vec<u8>) {
 fn with_n(random: &mut Random, case: Case) -> String {
     let line = case.line();
     let all = format!(" {} ", case.bytes.len());
-    let ends = case.fields().first() == Some(&crate::line::Field::End);
+    let ends = case.fields().first() == Some(&Field::End);
     if ends && case.numbers[0] == case.bytes.len() as u64 && random.percent(70) { line.replacen(&all, " n ", 1) } else { line }
 }
 
 #[cfg(test)]
 mod tests {
     use super::*;
-    use crate::line::parse;
+    use crate::line::{parse, words};
 
     #[test]
     fn the_same_seed_gives_the_same_cases() {
-        for (word, _) in WORDS {
+        for (word, _) in words() {
             for index in 0..200 {
                 assert_eq!(case(word, 7, index), case(word, 7, index));
             }
@@ -79,7 +83,7 @@ mod tests {
 
     #[test]
     fn every_line_is_a_case() {
-        for (word, _) in WORDS {
+        for (word, _) in words() {
             for index in 0..5000 {
                 let line = case(word, 3, index);
                 assert!(parse(&line).is_some(), "{line}");

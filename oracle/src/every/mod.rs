@@ -1,6 +1,7 @@
 //! Cases without a seed: every buffer of a small kind, with every number that may matter to it.
 
 mod arri;
+pub mod asked;
 mod frames;
 mod pieces;
 mod tables;
@@ -11,17 +12,33 @@ use pieces::Buffers;
 use crate::line::Case;
 use crate::plain::{Length, length};
 
+/// Cases of one buffer after another.
+pub type Cases = Box<dyn Iterator<Item = Vec<Case>> + Send>;
+
 /// The lines of every case of a word.
 pub fn cases(word: &'static str) -> impl Iterator<Item = String> + Send + 'static {
-    buffers(word).flat_map(move |bytes| lines(word, bytes))
+    by_buffer(word).flatten().map(|case| case.line())
 }
 
 /// How many buffers and cases of a word there are.
-pub fn counted(word: &str) -> (u64, u64) {
-    buffers(word).fold((0, 0), |(buffers, cases), bytes| (buffers + 1, cases + numbers(word, &bytes).len() as u64))
+pub fn counted(word: &'static str) -> (u64, u64) {
+    by_buffer(word).fold((0, 0), |(buffers, all), cases| (buffers + 1, all + cases.len() as u64))
 }
 
-/// Every buffer of a word.
+/// Every case of a word, those of a buffer together.
+fn by_buffer(word: &'static str) -> Cases {
+    asked::cases(word).unwrap_or_else(|| of(word, buffers(word), move |bytes| numbers(word, bytes)))
+}
+
+/// The cases of a word over some buffers, with each of the numbers that a buffer has.
+fn of(word: &'static str, buffers: Buffers, numbers: impl Fn(&[u8]) -> Vec<Vec<u64>> + Send + 'static) -> Cases {
+    Box::new(buffers.map(move |bytes| {
+        let case = |numbers| Case { word, numbers, bytes: bytes.clone(), ..Case::default() };
+        numbers(&bytes).into_iter().map(case).collect()
+    }))
+}
+
+/// Every buffer of a word of document 01.
 fn buffers(word: &str) -> Buffers {
     match word {
         "ber" => walk::lengths(),
@@ -46,12 +63,6 @@ fn buffers(word: &str) -> Buffers {
         "canon" => frames::canon(),
         _ => panic!("not every case of {word}"),
     }
-}
-
-/// The lines of a word over a buffer.
-fn lines(word: &'static str, bytes: Vec<u8>) -> impl Iterator<Item = String> {
-    let numbers = numbers(word, &bytes).into_iter();
-    numbers.map(move |numbers| Case { word, numbers, bytes: bytes.clone() }.line())
 }
 
 /// The numbers of a word's cases over a buffer: every end and the first one past it, every cursor, the limits that matter,
@@ -87,13 +98,13 @@ fn limits(bytes: &[u8]) -> Vec<u64> {
 #[cfg(test)]
 mod tests {
     use super::*;
-    use crate::line::{WORDS, parse};
+    use crate::line::{parse, words};
 
     #[test]
     fn every_line_is_a_case() {
-        for (word, _) in WORDS {
-            for line in buffers(word).step_by(997).take(200).flat_map(|bytes| lines(word, bytes)) {
-                assert!(parse(&line).is_some_and(|case| case.word == word), "{line}");
+        for (word, _) in words() {
+            for case in by_buffer(word).step_by(997).take(200).flatten() {
+                assert!(parse(&case.line()).is_some_and(|read| read == case), "{}", case.line());
             }
         }
     }
