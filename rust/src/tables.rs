@@ -38,11 +38,16 @@ pub struct Primer<'a>(
 );
 
 impl<'a> Primer<'a> {
-    /// The label of a local tag. The last of equal tags is the answer.
+    /// The label of a local tag. The last of equal tags is the answer; an entry that is cut is none.
     ///
     /// ```
-    /// let pack = [&[0, 0, 0, 9, 0, 0, 0, 18][..], &[0x80, 1], &[7; 16], &[0x80, 1], &[8; 16]].concat();
+    /// let mut pack = [&[0, 0, 0, 9, 0, 0, 0, 18][..], &[0x80, 1], &[7; 16], &[0x80, 1], &[8; 16]].concat();
     /// assert_eq!(brinethimble::Primer(&pack).get(0x8001), Some(&[8; 16]));
+    /// pack.extend([0x80, 1]);
+    /// pack.extend([9; 15]);
+    /// assert_eq!(brinethimble::Primer(&pack).get(0x8001), Some(&[8; 16]));
+    /// pack.push(9);
+    /// assert_eq!(brinethimble::Primer(&pack).get(0x8001), Some(&[9; 16]));
     /// ```
     pub fn get(self, tag: u16) -> Option<&'a [u8; 16]> {
         let [found, place] = boundary::primer(self.0, tag);

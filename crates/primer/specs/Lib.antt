@@ -1,1 +1,2 @@
 pub mod Primer
+pub mod LastWins

@@ -1,6 +1,6 @@
-// The primer: docs/RULES.md, "Tables inside values". Bytes 4..8 must be 18, else it is empty; the count is ignored; entries of 18 from 8,
-// a partial last one dropped; the last of equal tags wins. Nothing is reserved, whatever the count or a length says: the
-// search is of the lent bytes.
+// The primer: docs/RULES.md, "Tables inside values", and "L5. Last tag wins". Bytes 4..8 must be 18, else it is empty; the count
+// is ignored; entries of 18 start at 8, and a partial last one is dropped. Of equal tags the last wins: the search goes
+// backwards from the last whole entry and takes the first that it meets. Nothing is kept: the search is of the lent bytes.
 ghost use mathlib.Core.Path.{_≡_};
 ghost use Prim.Native.Nat.{_+_, _≤_};
 ghost use lib.ListN.{length};
@@ -25,7 +25,7 @@ fn has(s: &[u8], at: usize, tag: u64) -> bool
     number(&s[at..end]) == tag
 }
 
-// The label of a local tag, in the primer's value: the last of equal tags is the first that is met from the end.
+// The label of a local tag, in the primer's value: of equal tags the last, which is the first that is met from the end.
 pub fn find(s: &[u8], tag: u64) -> Entry
     ensures { λ r. ⌜ told r ≡ entryOf (now (s .entry)) tag ⌝ }
 {
