@@ -25,6 +25,10 @@ agreeBut x y z a b = eqb (length a) 16 && (eqb (length b) 16 && firstAgree x y z
 abbrev pub sameLabel : List ℕ → List ℕ → Bool
 sameLabel a b = agreeBut 7 7 7 a b
 
+-- a set's label, whose byte 5 says how its items are coded: docs/RULES.md, "L3. The tally's groups"
+unfoldable pub codesItems : List ℕ → Bool
+codesItems l = eqb (getD l 4 0) 0x02 && (eqb (getD l 5 0) 0x13 || (eqb (getD l 5 0) 0x43 || eqb (getD l 5 0) 0x53))
+
 -- the label at a place, cut to the buffer
 abbrev pub labelAt : List ℕ → ℕ → List ℕ
 labelAt s at = take 16 (drop at s)

@@ -1,7 +1,7 @@
 // Labels: docs/RULES.md, "Lengths and labels". Two labels are the same when both have 16 bytes and agree in all but the
 // byte at 7.
 ghost use mathlib.Core.Path.{_≡_};
-ghost use Rattle.labels.specs.Label.{beginning, agreeBut, sameLabel, labelAt};
+ghost use Rattle.labels.specs.Label.{beginning, agreeBut, sameLabel, codesItems, labelAt};
 
 // What every key starts with: a SMPTE universal label's first bytes (ST 336).
 pub const KEY_START: [u8; 4] = *b"\x06\x0e\x2b\x34";
@@ -55,6 +55,16 @@ pub fn same_label(a: &[u8], b: &[u8]) -> bool
     ensures { λ r. ⌜ r ≡ sameLabel (now (a .entry)) (now (b .entry)) ⌝ }
 {
     agree_but(a, b, 7, 7, 7)
+}
+
+// Whether a label is a set's, whose byte 5 says how its items are coded: byte 4 is 02h, and byte 5 is 13h, 43h or 53h.
+pub fn codes_items(l: &[u8]) -> bool
+    ensures { λ r. ⌜ r ≡ codesItems (now (l .entry)) ⌝ }
+{
+    if l.len() < 6 {
+        return false;
+    }
+    (l[4] == 0x02) & ((l[5] == 0x13) | ((l[5] == 0x43) | (l[5] == 0x53)))
 }
 
 // The 16 bytes of the label at a place: as many of them as are there.

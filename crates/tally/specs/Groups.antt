@@ -1,10 +1,10 @@
--- The tally: docs/RULES.md, "Tally and listing". It groups records by same label, in order of first appearance, at most 64
--- groups; records that fit none of these count as other.
+-- The tally: docs/RULES.md, "Tally and listing", and "L3. The tally's groups" for which labels group together. Groups come in
+-- order of first appearance, at most 64; records that fit none of these count as other.
 use Prim.Native.Nat.{ℕ, zero, suc, _+_}
 use mathlib.Core.List.{List, [], _∷_, _++_, map}
-use mathlib.Core.Bool.{Bool, cond}
+use mathlib.Core.Bool.{Bool, cond, _&&_}
 use lib.ListN.{length, drop}
-use Rattle.labels.specs.Label.{sameLabel, labelAt}
+use Rattle.labels.specs.Label.{agreeBut, codesItems, labelAt}
 use Rattle.klv.specs.Item.{Item}
 use Rattle.records.specs.Records.{finished}
 use Rattle.tally.specs.declared.Tally.{Tally}
@@ -15,9 +15,13 @@ pub record Groups : Type 0 where
   pub counts : List ℕ
   pub other : ℕ
 
--- whether the records at two places have the same label
+-- two labels group together when they agree in all but the byte at 7 and, where it codes the items of both, the byte at 5
+unfoldable pub sameGroup : List ℕ → List ℕ → Bool
+sameGroup a b = agreeBut (cond (codesItems a && codesItems b) 5 7) 7 7 a b
+
+-- whether the records at two places group together
 unfoldable pub same : List ℕ → ℕ → ℕ → Bool
-same s p q = sameLabel (labelAt s p) (labelAt s q)
+same s p q = sameGroup (labelAt s p) (labelAt s q)
 
 -- how many pass a test, and those that do not
 unfoldable pub howMany : (ℕ → Bool) → List ℕ → ℕ

@@ -1,18 +1,28 @@
-// The tally: docs/RULES.md, "Tally and listing". It groups records by same label, in order of first appearance, at most 64
-// groups; records that fit none of these count as other.
+// The tally: docs/RULES.md, "Tally and listing", and "L3. The tally's groups" for which labels group together. Groups come in
+// order of first appearance, at most 64; records that fit none of these count as other.
 ghost use mathlib.Core.Path.{_≡_};
 ghost use Prim.Native.Nat.{_+_, _≤_, _<_};
 ghost use lib.ListN.{length};
-ghost use Rattle.tally.specs.Groups.{same, groupsOf, answerOf, front};
+ghost use Rattle.tally.specs.Groups.{sameGroup, same, groupsOf, answerOf, front};
 ghost use Rattle.tally.specs.Adding.{groupOf, Below, Added};
 use walk::Cursor;
 use walk::Step;
 
-// Whether the records at two places have the same label.
+// Whether two labels group together: the byte at 7 doesn't count, nor does the byte at 5 where it codes the items of both.
+fn same_group(a: &[u8], b: &[u8]) -> bool
+    ensures { λ r. ⌜ r ≡ sameGroup (now (a .entry)) (now (b .entry)) ⌝ }
+{
+    if labels::codes_items(a) & labels::codes_items(b) {
+        return labels::agree_but(a, b, 5, 7, 7);
+    }
+    labels::same_label(a, b)
+}
+
+// Whether the records at two places group together.
 fn same_at(s: &[u8], p: usize, q: usize) -> bool
     ensures { λ r. ⌜ r ≡ same (now (s .entry)) p q ⌝ }
 {
-    labels::same_label(labels::label(s, p), labels::label(s, q))
+    same_group(labels::label(s, p), labels::label(s, q))
 }
 
 // The first group that the record at p belongs to, else the number of groups.
