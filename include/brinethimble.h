@@ -147,8 +147,10 @@ uint32_t brine_records(const uint8_t *s, size_t s_len, size_t end, size_t at, ui
 uint32_t brine_arrivals(const uint8_t *a, size_t a_len, size_t limit, size_t at, uint64_t *records, size_t records_len,
                         uint64_t out[BRINE_RECORDS_PLACES]);
 
-/* The records of the finished walk of all of s, grouped by same label in order of first appearance: each group's first
- * record's place in `firsts`, how many it has in `counts`; places past the last group keep their contents.
+/* The records of the finished walk of all of s, in groups in order of first appearance: each group's first record's place in
+ * `firsts`, how many it has in `counts`; places past the last group keep their contents. Records with the same label are in one
+ * group, and so are two sets (label byte 4 is 02h, byte 5 is 13h, 43h or 53h) that differ in byte 5: it only says how their
+ * items are coded.
  * out: how many groups there are (at most BRINE_GROUPS), how many records are in none. */
 #define BRINE_GROUPS 64
 #define BRINE_TALLY_GROUPS 0

@@ -220,7 +220,7 @@ pub fn records_into(s: &[u8], end: usize, at: usize, room: &mut [[u64; 3]]) -> R
     Ok(Filled { records: records as usize, next: next as usize })
 }
 
-/// A file's records by same label.
+/// A file's records in groups by their labels.
 #[derive(Clone, Debug)]
 pub struct Tally {
     firsts: [usize; 64],
@@ -243,9 +243,17 @@ impl Tally {
     }
 }
 
-/// The records of the finished walk of all of `s`, grouped by same label.
+/// The records of the finished walk of all of `s`, in groups: by same label, and two sets whose labels differ in how their items
+/// are coded (byte 5 is 13h, 43h or 53h behind a byte 4 of 02h) are in one group, too.
 ///
 /// ```
+/// let set = *b"\x06\x0e\x2b\x34\x02\x53\x01\x01\x0d\x01\x01\x01\x01\x01\x2f\x00";
+/// let mut coded = set;
+/// coded[5] = 0x13;
+/// let tally = brinethimble::tally(&[&set[..], &[0], &coded, &[0]].concat());
+/// assert_eq!(tally.groups().collect::<Vec<_>>(), [(0, 2)]);
+/// assert!(!brinethimble::same_label(&set, &coded));
+///
 /// let label = *b"\x06\x0e\x2b\x34\x01\x01\x01\x0d\x0e\x15\x00\x01\x00\x01\x00\x00";
 /// let other = *b"\x06\x0e\x2b\x34\x01\x01\x01\x0e\x0e\x15\x00\x01\x00\x01\x00\x00";
 /// let file = [&[0][..], &label, &[2, 0xaa, 0xbb], &other, &[0x81, 0]].concat();

@@ -1,1 +1,2 @@
 pub mod LastTag
+pub mod Grouping
