@@ -25,7 +25,6 @@ pub fn put(out: &mut String, case: &Case) {
         "step" => words::walk::step(out, bytes, number(0), number(1)),
         "klvs" => words::walk::run(out, bytes),
         "arrive" => plain::arrive(out, bytes, number(0)),
-        "tally" => plain::tally(out, bytes),
         "header" => words::arri::header(out, bytes),
         "primer" => words::arri::primer(out, bytes),
         "items" => words::arri::items(out, bytes, number(0) == 1),

@@ -1,7 +1,6 @@
-//! No Rust to compare with: document 01 read plainly. The arriving walk and the tally, and the finished walk that they
-//! speak of, as its sentences say them and as slowly as they say it.
+//! No Rust to compare with: document 01 read plainly. The arriving walk, and the finished walk that it speaks of, as its
+//! sentences say them and as slowly as they say it.
 
-use crate::line::put_hex;
 use crate::words::{Record, put_number};
 
 const START: [u8; 4] = [0x06, 0x0e, 0x2b, 0x34];
@@ -27,11 +26,6 @@ pub fn length(bytes: &[u8]) -> Length {
         Some(digits) => Length::Is(digits.iter().fold(0, |number, digit| number * 256 + *digit as u64), 1 + more),
         None => Length::Cut,
     }
-}
-
-/// Whether two labels are the same: they agree in all but the byte at 7.
-fn same(a: &[u8; 16], b: &[u8; 16]) -> bool {
-    (0..16).all(|i| i == 7 || a[i] == b[i])
 }
 
 /// Whether the key start stands at a place, wholly before an end.
@@ -120,27 +114,6 @@ pub fn arrive(out: &mut String, bytes: &[u8], limit: u64) {
     }
     out.push('|');
     put_number(out, place);
-}
-
-/// `tally`: the groups of the finished walk's records by same label, at most 64, and the count of the others.
-pub fn tally(out: &mut String, bytes: &[u8]) {
-    let mut groups: Vec<([u8; 16], u64)> = Vec::new();
-    let mut other = 0;
-    for record in finished(bytes, bytes.len()).0 {
-        match groups.iter().position(|(label, _)| same(label, &record.label)) {
-            Some(group) => groups[group].1 += 1,
-            None if groups.len() < 64 => groups.push((record.label, 1)),
-            None => other += 1,
-        }
-    }
-    for (label, count) in groups {
-        put_hex(out, &label);
-        out.push(',');
-        put_number(out, count);
-        out.push(';');
-    }
-    out.push('|');
-    put_number(out, other);
 }
 
 #[cfg(test)]

@@ -98,6 +98,19 @@ pub fn arrive(random: &mut Random) -> (Vec<u64>, Vec<u8>) {
     (vec![limit], sketch.bytes)
 }
 
+/// What byte 5 of a label is: how a set's items are coded, or something else.
+const CODINGS: [u8; 8] = [0x13, 0x43, 0x53, 0x13, 0x53, 0x63, 0x05, 0x52];
+
+/// A label with a byte at 8, a coding at 5 and mostly 2 at 4.
+fn set_label(random: &mut Random, kind: u8) -> [u8; 16] {
+    let mut label = [0; 16];
+    label[..4].copy_from_slice(&START);
+    label[4] = *random.one(&[2, 2, 2, 1]);
+    label[5] = *random.one(&CODINGS);
+    label[8] = kind;
+    label
+}
+
 /// Records whose labels come again, at times more than 64 kinds of them.
 pub fn tally(random: &mut Random) -> Vec<u8> {
     if random.percent(50) {
@@ -113,6 +126,9 @@ pub fn tally(random: &mut Random) -> Vec<u8> {
         if random.percent(20) {
             label[7] = random.byte();
         }
+        if matches!(label[4], 1 | 2) && random.percent(30) {
+            label[5] = *random.one(&CODINGS);
+        }
         bytes.extend(label);
         let size = random.below(3);
         bytes.extend(encoded(size as u64, 1));
@@ -123,9 +139,11 @@ pub fn tally(random: &mut Random) -> Vec<u8> {
 
 /// A label that differs from those of other kinds in one byte: always where there are many, else mostly.
 fn kind_of_label(random: &mut Random, kind: usize, many: bool) -> [u8; 16] {
-    match random.below(4) {
+    match random.below(6) {
         0 if !many => label(random),
         1 if !many => LABELS[kind % LABELS.len()],
+        2 if !many => set_label(random, 0),
+        3 => set_label(random, kind as u8),
         _ => {
             let mut label = [0; 16];
             label[..4].copy_from_slice(&START);

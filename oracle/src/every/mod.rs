@@ -115,7 +115,7 @@ mod tests {
         let (buffers, cases) = counted("sony");
         assert_eq!(buffers, up_to(5, 10));
         assert!(cases > 20 * buffers);
-        assert_eq!(counted("tally").0, up_to(7, 8) + up_to(7, 8) - up_to(3, 8));
+        assert_eq!(counted("tally").0, up_to(7, 8) + up_to(7, 8) - up_to(3, 8) + up_to(5, 8) - 1);
         assert_eq!(counted("step").0, up_to(4, 15) + 7u64.pow(5));
     }
 

@@ -18,6 +18,11 @@ const RUN: &str =
 const TALLIED: &str = "060e2b34aaaaaaaaaaaaaaaaaaaaaaaa 060e2b34aaaaaabbaaaaaaaaaaaaaaaa 060e2b34aaaaaaaabbaaaaaaaaaaaaaa \
     060e2b34aaaaaaaaaaaaaaaaaaaaaabb 00 02 81 89";
 
+/// Empty records of sets in several codings, and of labels near theirs.
+const SETS: &str = "060e2b34025301010d0101010101280000 060e2b34021301010d0101010101280000 060e2b34024301020d0101010101280000 \
+    060e2b34026301010d0101010101280000 060e2b34015301010d0101010101280000 060e2b34011301010d0101010101280000 \
+    060e2b34020501010d0101010101280000 060e2b34025302010d0101010101280000";
+
 /// Every buffer of at most 3 bytes; first bytes of long lengths with up to 9 bytes after them; numbers around boundaries.
 pub fn lengths() -> Buffers {
     let short = sequences(bytes(0..=255), 0..=3);
@@ -52,7 +57,7 @@ pub fn arriving() -> Buffers {
 /// Records whose labels come again.
 pub fn tallied() -> Buffers {
     let records: Alphabet = one_of_each(vec![hex(TALLIED)[..4].to_vec(), hex("00 02")]).collect();
-    Box::new(sequences(hex(TALLIED), 0..=7).chain(sequences(records, 4..=7)))
+    Box::new(sequences(hex(TALLIED), 0..=7).chain(sequences(records, 4..=7)).chain(sequences(hex(SETS), 1..=5)))
 }
 
 /// A label, a length around a boundary and a value that is one byte short, whole or one byte long, and perhaps a record.
