@@ -6,6 +6,7 @@ use std::process::{Child, Command, Stdio};
 use std::thread::JoinHandle;
 use std::time::Instant;
 
+use crate::asked;
 use crate::known::expected;
 use crate::shrink::smallest;
 
@@ -116,6 +117,11 @@ pub fn report_lines(port: &Port, lines: &[String]) -> Result<bool> {
     Ok(difference.is_none())
 }
 
+/// Whether a case is one of a request's words.
+fn is_asked(line: &str) -> bool {
+    asked::words().any(|(word, _)| line.split(' ').next() == Some(word))
+}
+
 /// Shows a case with both answers.
 fn show(port: &Port, line: &str) -> Result<()> {
     let answer = port.answers(&[line.to_string()])?.into_iter().next();
@@ -124,6 +130,7 @@ fn show(port: &Port, line: &str) -> Result<()> {
     println!("port: {}", answer.as_deref().unwrap_or("(no answer)"));
     match difference {
         Some(known) => println!("01:   {right}   ({})", known.rule),
+        None if is_asked(line) => println!("02:   {right}"),
         None => println!("Rust: {right}"),
     }
     Ok(())

@@ -59,7 +59,7 @@ pub const WORDS: [Word; 20] = [
 
 /// Every word, of document 01 and of 02's requests.
 pub fn words() -> impl Iterator<Item = Word> {
-    WORDS.into_iter().chain(asked::WORDS.iter().flat_map(|words| words.iter().copied()))
+    WORDS.into_iter().chain(asked::words())
 }
 
 /// The word that has a name.

@@ -1,22 +1,35 @@
 //! Document 02's requests read plainly, one file a request: as its sentences say it, and as slowly as they say it. Wherever
 //! the published Rust has an answer, it is the judge.
 
+pub mod forms;
 pub mod groups;
 
-use crate::line::{Case, Word};
+use crate::line::{Case, Field, Word};
 
-/// The words of each request that adds some.
-pub const WORDS: &[&[Word]] = &[];
+/// A request's words and what answers their cases.
+type Request = (&'static [Word], fn(&mut String, &Case));
 
-/// Those of them that take any part of a file.
-pub const TAKING: &[&str] = &[];
+/// The requests that add words.
+const REQUESTS: &[Request] = &[(forms::WORDS, forms::put)];
+
+/// The words that take any part of a file.
+pub const TAKING: &[&str] = &["forms", "formrun"];
+
+/// The words of all requests.
+pub fn words() -> impl Iterator<Item = Word> {
+    REQUESTS.iter().flat_map(|(words, _)| words.iter().copied())
+}
 
 /// The answer to a case of a request.
 pub fn put(out: &mut String, case: &Case) {
-    match case.word {
-        "tally" => groups::tally(out, &case.bytes),
-        word => unreachable!("{word} is no word"),
+    if case.word == "tally" {
+        return groups::tally(out, &case.bytes);
     }
+    if case.fields()[0] == Field::End && case.numbers[0] > case.bytes.len() as u64 {
+        return out.push_str("refused 1");
+    }
+    let is_its = |(words, _): &&Request| words.iter().any(|(word, _)| *word == case.word);
+    REQUESTS.iter().find(is_its).expect("a request's word").1(out, case);
 }
 
 #[cfg(test)]

@@ -110,6 +110,16 @@ impl Sketch {
         self.mark();
     }
 
+    /// An element with a length's bytes and a value of so many.
+    pub fn put_with(&mut self, random: &mut Random, length: &[u8], size: usize) {
+        let (label, value) = (label(random), value(random, size));
+        for part in [&label[..], length, &value] {
+            self.mark();
+            self.bytes.extend(part);
+        }
+        self.mark();
+    }
+
     /// A length in one of the forms that can hold it.
     fn length(&mut self, random: &mut Random, number: u64) {
         let place = self.bytes.len();
@@ -139,7 +149,7 @@ impl Sketch {
     }
 
     /// Bytes that lie between elements: none, parts of a key start, overlapping ones, or anything.
-    fn between(&mut self, random: &mut Random) {
+    pub fn between(&mut self, random: &mut Random) {
         match random.below(4) {
             0 => self.bytes.extend(&START[..random.between(1, 3)]),
             1 => self.bytes.extend([&START[..random.between(1, 3)], &START[..]].concat()),

@@ -1,6 +1,7 @@
 //! Every buffer of `ber`, `walk`, `step`, `klvs`, `arrive` and `tally`.
 
 use super::pieces::{Alphabet, Buffers, hex, one_of_each, sequences};
+use crate::asked::forms::holds;
 pub use crate::cases::sketch::START;
 use crate::cases::sketch::encoded;
 
@@ -78,15 +79,6 @@ fn boundaries() -> impl Iterator<Item = Vec<u8>> + Send {
     numbers.sort_unstable();
     numbers.dedup();
     numbers.into_iter().flat_map(|number| (1..=9).filter(move |size| holds(*size, number)).map(move |size| encoded(number, size)))
-}
-
-/// Whether a length of so many bytes holds a number.
-fn holds(size: usize, number: u64) -> bool {
-    match size {
-        1 => number < 0x80,
-        9 => true,
-        _ => number < 1 << (8 * (size - 1)),
-    }
 }
 
 /// The alphabet of single bytes.

@@ -50,13 +50,21 @@ pub fn step(out: &mut String, bytes: &[u8], end: u64, from: u64) {
 
 /// `klvs`: the items of a run.
 pub fn run(out: &mut String, bytes: &[u8]) {
-    let mut place = 0;
-    for (label, value) in klvs(bytes) {
-        let record = Record { place, label: *label, value: offset(bytes, value), length: value.len() as u64 };
+    for record in run_records(bytes) {
         record.put(out);
         out.push(';');
-        place = record.value + record.length;
     }
+}
+
+/// The records of a run.
+pub fn run_records(bytes: &[u8]) -> Vec<Record> {
+    let mut place = 0;
+    let record = |(label, value): (&[u8; 16], &[u8])| {
+        let record = Record { place, label: *label, value: offset(bytes, value), length: value.len() as u64 };
+        place = record.value + record.length;
+        record
+    };
+    klvs(bytes).map(record).collect()
 }
 
 /// The published walk over bytes in memory, with the place of each label that it reads.

@@ -1,9 +1,29 @@
 //! Cases of the words of 02's requests.
 
+mod forms;
+
 use super::random::Random;
 use crate::line::Case;
 
 /// The case of a word, where it is a request's.
-pub fn case(_: &'static str, _: &mut Random) -> Option<Case> {
-    None
+pub fn case(word: &'static str, random: &mut Random) -> Option<Case> {
+    let mut case = match word {
+        "form" => bytes(forms::form(random)),
+        "forms" => forms::forms(random),
+        "formrun" => bytes(forms::run(random)),
+        "formitems" => forms::items(random),
+        _ => return None,
+    };
+    case.word = word;
+    Some(case)
+}
+
+/// A case of bytes alone.
+fn bytes(bytes: Vec<u8>) -> Case {
+    numbered([], bytes)
+}
+
+/// A case of numbers and bytes.
+fn numbered(numbers: impl Into<Vec<u64>>, bytes: Vec<u8>) -> Case {
+    Case { numbers: numbers.into(), bytes, ..Case::default() }
 }
