@@ -38,67 +38,93 @@ fn record(bytes: &[u8], p: usize, v: usize, length: u64) -> Record {
     Record { place: p as u64, label: bytes[p..p + 16].try_into().unwrap(), value: v as u64, length }
 }
 
-/// The finished walk over bytes up to an end: its records, and its last cursor.
-pub fn finished(bytes: &[u8], e: usize) -> (Vec<Record>, u64) {
-    let mut records = Vec::new();
-    let mut p = 0;
-    let search = |from: usize| (from..e).find(|place| starts(bytes, *place, e)).unwrap_or(from.max(e));
+/// Where a search of the finished walk goes: to the first key from a place on, else to the end, if that isn't before it.
+pub fn search(bytes: &[u8], from: usize, e: usize) -> usize {
+    (from..e).find(|place| starts(bytes, *place, e)).unwrap_or(from.max(e))
+}
+
+/// A step of the finished walk from `p`: its record, or the cursor where the walk is over.
+pub fn finished_step(bytes: &[u8], e: usize, mut p: usize) -> Result<Record, usize> {
     while p + 17 <= e {
         if !starts(bytes, p, bytes.len()) {
-            p = search(p + 1);
+            p = search(bytes, p + 1, e);
             continue;
         }
         match length(&bytes[p + 16..]) {
             Length::Cut => break,
-            Length::None => p = search(p + 17),
+            Length::None => p = search(bytes, p + 17, e),
             Length::Is(number, size) => {
                 let v = p + 16 + size;
                 if number <= e.saturating_sub(v) as u64 {
-                    records.push(record(bytes, p, v, number));
-                    p = v + number as usize;
-                } else {
-                    p = search(v);
+                    return Ok(record(bytes, p, v, number));
                 }
+                p = search(bytes, v, e);
             }
         }
     }
-    (records, p as u64)
+    Err(p)
 }
 
-/// The arriving walk over bytes within a limit: its records, and the place where it waits.
-pub fn arriving(bytes: &[u8], limit: u64) -> (Vec<Record>, u64) {
+/// Where a search of the arriving walk goes: to the first key from a place on, else to the first place from which all bytes
+/// are a beginning of one.
+pub fn arriving_search(bytes: &[u8], from: usize) -> Result<usize, usize> {
     let e = bytes.len();
-    let mut records = Vec::new();
-    let mut p = 0;
+    let begun = || (from..=e).find(|place| START.starts_with(&bytes[*place..])).expect("the end at least");
+    (from..e).find(|place| starts(bytes, *place, e)).ok_or_else(begun)
+}
+
+/// A step of the arriving walk from `p`: its record, or the place where it waits.
+pub fn arriving_step(bytes: &[u8], limit: u64, mut p: usize) -> Result<Record, usize> {
+    let e = bytes.len();
     loop {
         if p + 17 > e {
-            return (records, p as u64);
+            return Err(p);
         }
         let from = if !starts(bytes, p, e) {
             p + 1
         } else {
             match length(&bytes[p + 16..]) {
-                Length::Cut => return (records, p as u64),
+                Length::Cut => return Err(p),
                 Length::None => p + 17,
                 Length::Is(number, size) => {
                     let v = p + 16 + size;
                     if number <= (e - v) as u64 {
-                        records.push(record(bytes, p, v, number));
-                        p = v + number as usize;
-                        continue;
+                        return Ok(record(bytes, p, v, number));
                     }
                     if v as u128 + number as u128 <= limit as u128 {
-                        return (records, p as u64);
+                        return Err(p);
                     }
                     v
                 }
             }
         };
-        match (from..e).find(|place| starts(bytes, *place, e)) {
-            Some(place) => p = place,
-            None => return (records, (from..=e).find(|place| START.starts_with(&bytes[*place..])).unwrap() as u64),
+        p = arriving_search(bytes, from)?;
+    }
+}
+
+/// The records of a walk from 0 on by its step, and its last cursor.
+fn walked(step: impl Fn(usize) -> Result<Record, usize>) -> (Vec<Record>, u64) {
+    let mut records = Vec::new();
+    let mut p = 0;
+    loop {
+        match step(p) {
+            Ok(record) => {
+                p = record.end() as usize;
+                records.push(record);
+            }
+            Err(cursor) => return (records, cursor as u64),
         }
     }
+}
+
+/// The finished walk over bytes up to an end: its records, and its last cursor.
+pub fn finished(bytes: &[u8], e: usize) -> (Vec<Record>, u64) {
+    walked(|p| finished_step(bytes, e, p))
+}
+
+/// The arriving walk over bytes within a limit: its records, and the place where it waits.
+pub fn arriving(bytes: &[u8], limit: u64) -> (Vec<Record>, u64) {
+    walked(|p| arriving_step(bytes, limit, p))
 }
 
 /// `arrive`: the records of the arriving walk and the place where it waits, or refusal 2.

@@ -2,7 +2,9 @@
 //! the published Rust has an answer, it is the judge.
 
 pub mod forms;
+pub mod frames;
 pub mod groups;
+pub mod passed;
 
 use crate::line::{Case, Field, Word};
 
@@ -10,10 +12,10 @@ use crate::line::{Case, Field, Word};
 type Request = (&'static [Word], fn(&mut String, &Case));
 
 /// The requests that add words.
-const REQUESTS: &[Request] = &[(forms::WORDS, forms::put)];
+const REQUESTS: &[Request] = &[(forms::WORDS, forms::put), (passed::WORDS, passed::put)];
 
 /// The words that take any part of a file.
-pub const TAKING: &[&str] = &["forms", "formrun"];
+pub const TAKING: &[&str] = &["forms", "formrun", "passed", "passarrive", "passsony", "passarri", "passcanon"];
 
 /// The words of all requests.
 pub fn words() -> impl Iterator<Item = Word> {
@@ -38,6 +40,13 @@ pub mod tests {
 
     /// Document 02's key, which stands for K in its examples.
     pub const KEY: &str = "060e2b340101010d0e15000100010000";
+
+    /// An ARRI element of 8,193 bytes at 0 with an empty frame at 100 in it, and another behind it at 8,212, as hex.
+    pub fn over_long() -> String {
+        let label = "060e2b34010201010d01030117010f00";
+        let zeros = |count: usize| "00".repeat(count);
+        format!("{label}822001{}{label}00{}{label}00", zeros(81), zeros(8193 - 81 - 17))
+    }
 
     /// Shows that a case has an answer, with the key where either has a K.
     pub fn shows(case: &str, right: &str) {

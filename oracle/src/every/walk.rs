@@ -44,6 +44,11 @@ pub fn stepped() -> Buffers {
     Box::new(sequences(hex(PIECES), 0..=4).chain(sequences(hex(FEW), 5..=5)))
 }
 
+/// A few of what a step may meet.
+pub fn few() -> Buffers {
+    Box::new(sequences(hex(FEW), 0..=4))
+}
+
 /// Runs, whole and broken off.
 pub fn runs() -> Buffers {
     let records = sequences(hex("aaaaaaaaaaaaaaaaaaaaaaaaaaaaaaaa 00 02 81"), 7..=10);

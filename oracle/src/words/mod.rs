@@ -18,6 +18,11 @@ pub struct Record {
 }
 
 impl Record {
+    /// The place after the value.
+    pub fn end(&self) -> u64 {
+        self.value + self.length
+    }
+
     /// The record's text, without its end.
     pub fn put(&self, out: &mut String) {
         put_number(out, self.place);

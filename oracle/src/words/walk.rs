@@ -61,20 +61,20 @@ pub fn run_records(bytes: &[u8]) -> Vec<Record> {
     let mut place = 0;
     let record = |(label, value): (&[u8; 16], &[u8])| {
         let record = Record { place, label: *label, value: offset(bytes, value), length: value.len() as u64 };
-        place = record.value + record.length;
+        place = record.end();
         record
     };
     klvs(bytes).map(record).collect()
 }
 
 /// The published walk over bytes in memory, with the place of each label that it reads.
-struct Walker<'a> {
+pub struct Walker<'a> {
     stream: BufReader<Watched<'a>>,
 }
 
 impl<'a> Walker<'a> {
     /// A walk whose cursor is at a place. A buffer of 1 byte lets every read through to the watched bytes.
-    fn at(bytes: &'a [u8], place: u64) -> Self {
+    pub fn at(bytes: &'a [u8], place: u64) -> Self {
         let mut source = Cursor::new(bytes);
         source.set_position(place);
         let watched = Watched { source, label: place, cut: false };
@@ -82,7 +82,7 @@ impl<'a> Walker<'a> {
     }
 
     /// The next record, with the cursor after its value.
-    fn step(&mut self, end: u64) -> Option<Record> {
+    pub fn step(&mut self, end: u64) -> Option<Record> {
         let (label, length) = next_klv(&mut self.stream, end, &AtomicBool::new(false), &|_| ()).expect("memory is read without error")?;
         let value = self.position();
         self.stream.seek_relative(length as i64).expect("a value within the bytes");
@@ -90,7 +90,7 @@ impl<'a> Walker<'a> {
     }
 
     /// The cursor: a length that is cut leaves it at its label (01, The walk, 1 and 3).
-    fn cursor(&mut self) -> u64 {
+    pub fn cursor(&mut self) -> u64 {
         let watched = self.stream.get_ref();
         if watched.cut { watched.label } else { self.position() }
     }

@@ -1,8 +1,10 @@
 //! Cases of the words of 02's requests.
 
 mod forms;
+mod passed;
 
 use super::random::Random;
+use super::{canon, sony, walk};
 use crate::line::Case;
 
 /// The case of a word, where it is a request's.
@@ -12,6 +14,12 @@ pub fn case(word: &'static str, random: &mut Random) -> Option<Case> {
         "forms" => forms::forms(random),
         "formrun" => bytes(forms::run(random)),
         "formitems" => forms::items(random),
+        "passed" => passed::passed(random),
+        "passarrive" => of(walk::arrive(random)),
+        "passfrom" => passed::step(random),
+        "passsony" => of(sony::sony(random)),
+        "passarri" => passed::arri(random),
+        "passcanon" => of(canon::canon(random)),
         _ => return None,
     };
     case.word = word;
@@ -21,6 +29,11 @@ pub fn case(word: &'static str, random: &mut Random) -> Option<Case> {
 /// A case of bytes alone.
 fn bytes(bytes: Vec<u8>) -> Case {
     numbered([], bytes)
+}
+
+/// A case as a word of document 01 has it.
+fn of((numbers, bytes): (Vec<u64>, Vec<u8>)) -> Case {
+    numbered(numbers, bytes)
 }
 
 /// A case of numbers and bytes.

@@ -1,7 +1,7 @@
 //! Every small case of the words of 02's requests.
 
 use super::pieces::Buffers;
-use super::{Cases, of, tables, walk};
+use super::{Cases, frames, limits, of, tables, walk};
 
 /// Every case of a word, where it is a request's.
 pub fn cases(word: &'static str) -> Option<Cases> {
@@ -10,6 +10,12 @@ pub fn cases(word: &'static str) -> Option<Cases> {
         "forms" => of(word, walk::stepped(), ends),
         "formrun" => alone(word, walk::runs()),
         "formitems" => of(word, tables::items(), |_| vec![vec![1, 0], vec![1, 1], vec![2, 0], vec![2, 1]]),
+        "passed" => of(word, walk::stepped(), ends),
+        "passarrive" => of(word, walk::stepped(), |bytes| limits(bytes).into_iter().map(|limit| vec![limit]).collect()),
+        "passfrom" => of(word, walk::few(), carried),
+        "passsony" => of(word, frames::sony(), ends),
+        "passarri" => of(word, frames::arri(), ends),
+        "passcanon" => of(word, frames::canon(), ends),
         _ => return None,
     })
 }
@@ -22,4 +28,10 @@ fn alone(word: &'static str, buffers: Buffers) -> Cases {
 /// Every end of a buffer and the first one past it.
 fn ends(bytes: &[u8]) -> Vec<Vec<u64>> {
     (0..=bytes.len() as u64 + 1).map(|end| vec![end]).collect()
+}
+
+/// The whole as the end, every cursor to one past it, and every place to one past the cursor.
+fn carried(bytes: &[u8]) -> Vec<Vec<u64>> {
+    let end = bytes.len() as u64;
+    (0..=end + 1).flat_map(|at| (0..=at + 1).map(move |since| vec![end, at, since])).collect()
 }
