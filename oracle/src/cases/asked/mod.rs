@@ -2,6 +2,7 @@
 
 mod forms;
 mod passed;
+mod strict;
 
 use super::random::Random;
 use super::{canon, sony, walk};
@@ -20,6 +21,7 @@ pub fn case(word: &'static str, random: &mut Random) -> Option<Case> {
         "passsony" => of(sony::sony(random)),
         "passarri" => passed::arri(random),
         "passcanon" => of(canon::canon(random)),
+        "strict" => strict::strict(random),
         _ => return None,
     };
     case.word = word;

@@ -16,6 +16,7 @@ pub fn cases(word: &'static str) -> Option<Cases> {
         "passsony" => of(word, frames::sony(), ends),
         "passarri" => of(word, frames::arri(), ends),
         "passcanon" => of(word, frames::canon(), ends),
+        "strict" => of(word, walk::ended(), ends),
         _ => return None,
     })
 }
