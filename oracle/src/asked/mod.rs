@@ -5,6 +5,7 @@ pub mod forms;
 pub mod frames;
 pub mod groups;
 pub mod passed;
+pub mod random_index;
 pub mod strict;
 
 use crate::line::{Case, Field, Word};
@@ -13,10 +14,11 @@ use crate::line::{Case, Field, Word};
 type Request = (&'static [Word], fn(&mut String, &Case));
 
 /// The requests that add words.
-const REQUESTS: &[Request] = &[(forms::WORDS, forms::put), (passed::WORDS, passed::put), (strict::WORDS, strict::put)];
+const REQUESTS: &[Request] =
+    &[(forms::WORDS, forms::put), (passed::WORDS, passed::put), (strict::WORDS, strict::put), (random_index::WORDS, random_index::put)];
 
 /// The words that take any part of a file.
-pub const TAKING: &[&str] = &["forms", "formrun", "passed", "passarrive", "passsony", "passarri", "passcanon", "strict"];
+pub const TAKING: &[&str] = &["forms", "formrun", "passed", "passarrive", "passsony", "passarri", "passcanon", "strict", "rip"];
 
 /// The words of all requests.
 pub fn words() -> impl Iterator<Item = Word> {

@@ -2,6 +2,7 @@
 
 mod forms;
 mod passed;
+mod random_index;
 mod strict;
 
 use super::random::Random;
@@ -22,6 +23,7 @@ pub fn case(word: &'static str, random: &mut Random) -> Option<Case> {
         "passarri" => passed::arri(random),
         "passcanon" => of(canon::canon(random)),
         "strict" => strict::strict(random),
+        "rip" => random_index::rip(random),
         _ => return None,
     };
     case.word = word;

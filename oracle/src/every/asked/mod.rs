@@ -1,5 +1,7 @@
 //! Every small case of the words of 02's requests.
 
+mod packs;
+
 use super::pieces::Buffers;
 use super::{Cases, frames, limits, of, tables, walk};
 
@@ -17,6 +19,7 @@ pub fn cases(word: &'static str) -> Option<Cases> {
         "passarri" => of(word, frames::arri(), ends),
         "passcanon" => of(word, frames::canon(), ends),
         "strict" => of(word, walk::ended(), ends),
+        "rip" => alone(word, packs::random_indexes()),
         _ => return None,
     })
 }
