@@ -62,7 +62,8 @@ pub fn case(word: &str, part: &[u8]) -> Case {
         Field::Room => Some(LONGEST as u64),
         _ => None,
     };
-    Case { word, numbers: fields.iter().filter_map(number).collect(), bytes: part.to_vec(), ..Case::default() }
+    let list = if fields.contains(&Field::Cut) { "97".into() } else { String::new() };
+    Case { word, numbers: fields.iter().filter_map(number).collect(), list, bytes: part.to_vec(), ..Case::default() }
 }
 
 #[cfg(test)]

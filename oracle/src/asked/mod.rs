@@ -1,6 +1,7 @@
 //! Document 02's requests read plainly, one file a request: as its sentences say it, and as slowly as they say it. Wherever
 //! the published Rust has an answer, it is the judge.
 
+pub mod fed;
 pub mod forms;
 pub mod frames;
 pub mod groups;
@@ -14,11 +15,17 @@ use crate::line::{Case, Field, Word};
 type Request = (&'static [Word], fn(&mut String, &Case));
 
 /// The requests that add words.
-const REQUESTS: &[Request] =
-    &[(forms::WORDS, forms::put), (passed::WORDS, passed::put), (strict::WORDS, strict::put), (random_index::WORDS, random_index::put)];
+const REQUESTS: &[Request] = &[
+    (forms::WORDS, forms::put),
+    (passed::WORDS, passed::put),
+    (strict::WORDS, strict::put),
+    (random_index::WORDS, random_index::put),
+    (fed::WORDS, fed::put),
+];
 
 /// The words that take any part of a file.
-pub const TAKING: &[&str] = &["forms", "formrun", "passed", "passarrive", "passsony", "passarri", "passcanon", "strict", "rip"];
+pub const TAKING: &[&str] =
+    &["forms", "formrun", "passed", "passarrive", "passsony", "passarri", "passcanon", "strict", "rip", "fed", "fedend"];
 
 /// The words of all requests.
 pub fn words() -> impl Iterator<Item = Word> {
@@ -30,7 +37,8 @@ pub fn put(out: &mut String, case: &Case) {
     if case.word == "tally" {
         return groups::tally(out, &case.bytes);
     }
-    if case.fields()[0] == Field::End && case.numbers[0] > case.bytes.len() as u64 {
+    let known = case.word == "fedend";
+    if case.fields()[0] == Field::End && !known && case.numbers[0] > case.bytes.len() as u64 {
         return out.push_str("refused 1");
     }
     let is_its = |(words, _): &&Request| words.iter().any(|(word, _)| *word == case.word);

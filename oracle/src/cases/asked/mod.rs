@@ -1,5 +1,6 @@
 //! Cases of the words of 02's requests.
 
+mod fed;
 mod forms;
 mod passed;
 mod random_index;
@@ -24,6 +25,8 @@ pub fn case(word: &'static str, random: &mut Random) -> Option<Case> {
         "passcanon" => of(canon::canon(random)),
         "strict" => strict::strict(random),
         "rip" => random_index::rip(random),
+        "fed" => fed::fed(random),
+        "fedend" => fed::fed_end(random),
         _ => return None,
     };
     case.word = word;

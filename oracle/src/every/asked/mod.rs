@@ -1,5 +1,6 @@
 //! Every small case of the words of 02's requests.
 
+mod fed;
 mod packs;
 
 use super::pieces::Buffers;
@@ -13,13 +14,15 @@ pub fn cases(word: &'static str) -> Option<Cases> {
         "formrun" => alone(word, walk::runs()),
         "formitems" => of(word, tables::items(), |_| vec![vec![1, 0], vec![1, 1], vec![2, 0], vec![2, 1]]),
         "passed" => of(word, walk::stepped(), ends),
-        "passarrive" => of(word, walk::stepped(), |bytes| limits(bytes).into_iter().map(|limit| vec![limit]).collect()),
+        "passarrive" => of(word, walk::stepped(), within),
         "passfrom" => of(word, walk::few(), carried),
         "passsony" => of(word, frames::sony(), ends),
         "passarri" => of(word, frames::arri(), ends),
         "passcanon" => of(word, frames::canon(), ends),
         "strict" => of(word, walk::ended(), ends),
         "rip" => alone(word, packs::random_indexes()),
+        "fed" => fed::cut(of(word, walk::few(), within)),
+        "fedend" => fed::cut(of(word, walk::few(), known)),
         _ => return None,
     })
 }
@@ -38,4 +41,15 @@ fn ends(bytes: &[u8]) -> Vec<Vec<u64>> {
 fn carried(bytes: &[u8]) -> Vec<Vec<u64>> {
     let end = bytes.len() as u64;
     (0..=end + 1).flat_map(|at| (0..=at + 1).map(move |since| vec![end, at, since])).collect()
+}
+
+/// The limits that matter to a buffer.
+fn within(bytes: &[u8]) -> Vec<Vec<u64>> {
+    limits(bytes).into_iter().map(|limit| vec![limit]).collect()
+}
+
+/// The known ends on both sides of a buffer's own.
+fn known(bytes: &[u8]) -> Vec<Vec<u64>> {
+    let end = bytes.len() as u64;
+    [end.saturating_sub(1), end, end + 1].map(|end| vec![end]).to_vec()
 }
