@@ -1,88 +1,127 @@
-//! Demand 3 tried out: the arriving walk's list beside the published walk's finished lists of every short extension.
+//! Demand 3 tried out: what an arriving walk lists, with its counts, beside the published walk's finished lists of every short
+//! extension. Of records, and by L13 of Sony's and ARRI's frames.
 
+use crate::answer;
 use crate::cases::random::Random;
-use crate::cases::sketch::{START, Sketch, encoded};
-use crate::line::{Case, put_hex};
-use crate::plain::arriving;
-use crate::words::Record;
-use crate::words::walk::records;
-
-/// The bytes that extensions are made of: those of a key start, lengths of 0 to 2, a long one and none.
-const ALPHABET: [u8; 8] = [0x06, 0x0e, 0x2b, 0x34, 0x00, 0x02, 0x81, 0x89];
+use crate::cases::sketch::{LABELS, Sketch, encoded};
+use crate::line::Case;
 
 /// The most bytes that an extension has.
 const LONGEST: usize = 3;
 
-/// Checks so many buffers: how many extensions were walked, or the first buffer whose lists don't agree.
-pub fn check(count: u64, seed: u64) -> Result<u64, String> {
+/// A walk that is tried: its word, the word of its finished form, the labels of its buffers, and the bytes that extensions are
+/// made of: those of a key start, lengths and what ends a label.
+struct Tried {
+    arriving: &'static str,
+    finished: &'static str,
+    labels: &'static [[u8; 16]],
+    alphabet: [u8; 8],
+}
+
+/// A label that is nobody's.
+const PLAIN: [u8; 16] = hex_literal::hex!("060e2b34 00000000 00000000 00000000");
+
+const TRIED: [Tried; 3] = [
+    Tried { arriving: "passarrive", finished: "passed", labels: &[PLAIN], alphabet: [0x06, 0x0e, 0x2b, 0x34, 0x00, 0x02, 0x81, 0x89] },
+    Tried {
+        arriving: "sonyarrive",
+        finished: "passsony",
+        labels: &[LABELS[2], LABELS[2], PLAIN],
+        alphabet: [0x06, 0x0e, 0x2b, 0x34, 0x00, 0x01, 0x81, 0x89],
+    },
+    Tried {
+        arriving: "arriarrive",
+        finished: "passarri",
+        labels: &[LABELS[3], LABELS[4], LABELS[4], PLAIN],
+        alphabet: [0x06, 0x0e, 0x2b, 0x34, 0x00, 0x01, 0x81, 0x89],
+    },
+];
+
+/// Checks so many buffers of a word: how many extensions were walked, or the first buffer whose lists don't agree.
+pub fn check(word: &str, count: u64, seed: u64) -> Result<u64, String> {
+    let tried = TRIED.iter().find(|tried| tried.arriving == word).ok_or(format!("{word} is not tried"))?;
     let mut extensions = 0;
     for index in 0..count {
         let mut random = Random::of("arriving", seed, index);
-        let bytes = tiny(&mut random);
+        let bytes = tried.buffer(&mut random);
         let limit = bytes.len() + random.between(0, LONGEST);
-        let arrived = arriving(&bytes, limit as u64).0;
-        let (common, walked) = common_beginning(&bytes, limit);
+        let case = Case { word: tried.arriving, numbers: vec![limit as u64], bytes, ..Case::default() };
+        let arrived = listed(&case);
+        let (common, walked) = tried.common_beginning(&case.bytes, limit);
         extensions += walked;
         if arrived != common {
-            let case = Case { word: "arrive", numbers: vec![limit as u64], bytes, ..Case::default() };
-            return Err(format!("case: {}\nwalk: {}\ncommon to the finished lists: {}", case.line(), listed(&arrived), listed(&common)));
+            let [arrived, common] = [arrived, common].map(|list| list.join(";"));
+            return Err(format!("case: {}\nwalk: {arrived}\ncommon to the finished lists: {common}", case.line()));
         }
     }
     Ok(extensions)
 }
 
-/// A buffer that ends in the midst of something.
-fn tiny(random: &mut Random) -> Vec<u8> {
-    let mut sketch = Sketch::default();
-    for _ in 0..random.between(0, 2) {
-        let bytes = &mut sketch.bytes;
-        bytes.extend(START);
-        bytes.resize(bytes.len() + 12, 0);
+/// What the answer to a case lists.
+fn listed(case: &Case) -> Vec<String> {
+    let mut out = String::new();
+    answer::put(&mut out, case);
+    let list = out.split('|').next().unwrap_or_default();
+    list.split_terminator(';').map(String::from).collect()
+}
+
+impl Tried {
+    /// A buffer that ends in the midst of something, seldom one with an element that is over-long to ARRI.
+    fn buffer(&self, random: &mut Random) -> Vec<u8> {
+        let mut sketch = Sketch::default();
+        if random.below(400) == 0 {
+            sketch.bytes.extend([&self.labels[0][..], &encoded(8193, 3), &vec![0; 8000]].concat());
+            self.element(random, &mut sketch.bytes);
+            sketch.bytes.resize(19 + random.between(8190, 8193), 0);
+        }
+        for _ in 0..random.between(0, 2) {
+            self.element(random, &mut sketch.bytes);
+        }
+        if random.percent(40) {
+            let label = *random.one(self.labels);
+            sketch.bytes.extend(&label[..random.between(1, 16)]);
+        }
+        if random.percent(30) {
+            sketch.damage(random);
+        }
+        if random.percent(40) {
+            sketch.bytes.truncate(sketch.bytes.len().saturating_sub(random.between(1, 4)));
+        }
+        sketch.bytes
+    }
+
+    /// An element of a small size, its value mostly whole.
+    fn element(&self, random: &mut Random, bytes: &mut Vec<u8>) {
+        bytes.extend(random.one(self.labels));
         let form = *random.one(&[1, 1, 2, 3]);
-        let length = random.below(24);
+        let length = random.below(40);
         bytes.extend(encoded(length as u64, form));
         let there = if random.percent(60) { length } else { length.saturating_sub(random.between(1, 3)) };
-        bytes.extend((0..there).map(|_| *random.one(&ALPHABET)));
-    }
-    if random.percent(40) {
-        sketch.bytes.extend(&START[..random.between(1, 4)]);
-        sketch.bytes.resize(sketch.bytes.len() + random.below(13), 0);
-    }
-    if random.percent(30) {
-        sketch.damage(random);
-    }
-    if random.percent(40) {
-        sketch.bytes.truncate(sketch.bytes.len().saturating_sub(random.between(1, 4)));
-    }
-    sketch.bytes
-}
-
-/// The longest list that the finished lists of all extensions within a limit begin with, and how many there are.
-fn common_beginning(bytes: &[u8], limit: usize) -> (Vec<Record>, u64) {
-    let mut common = records(bytes, bytes.len() as u64);
-    let mut walked = 1;
-    let mut longer = vec![bytes.to_vec()];
-    for _ in bytes.len()..limit {
-        longer = longer.iter().flat_map(|bytes| ALPHABET.map(|byte| [&bytes[..], &[byte]].concat())).collect();
-        for extension in &longer {
-            let list = records(extension, extension.len() as u64);
-            let agreeing = common.iter().zip(&list).take_while(|(a, b)| a == b).count();
-            common.truncate(agreeing);
-            walked += 1;
+        if there > 17 && random.percent(30) {
+            bytes.extend([&random.one(self.labels)[..], &vec![0; there - 16]].concat());
+        } else {
+            bytes.extend((0..there).map(|_| *random.one(&self.alphabet)));
         }
     }
-    (common, walked)
-}
 
-/// Records as text.
-fn listed(records: &[Record]) -> String {
-    let mut out = String::new();
-    for record in records {
-        out += &format!("{},", record.place);
-        put_hex(&mut out, &record.label);
-        out += &format!(",{},{};", record.value, record.length);
+    /// The longest list that the finished lists of all extensions within a limit begin with, and how many there are.
+    fn common_beginning(&self, bytes: &[u8], limit: usize) -> (Vec<String>, u64) {
+        let finished = |bytes: &[u8]| {
+            listed(&Case { word: self.finished, numbers: vec![bytes.len() as u64], bytes: bytes.to_vec(), ..Case::default() })
+        };
+        let mut common = finished(bytes);
+        let mut walked = 1;
+        let mut longer = vec![bytes.to_vec()];
+        for _ in bytes.len()..limit {
+            longer = longer.iter().flat_map(|bytes| self.alphabet.map(|byte| [&bytes[..], &[byte]].concat())).collect();
+            for extension in &longer {
+                let list = finished(extension);
+                common.truncate(common.iter().zip(&list).take_while(|(a, b)| a == b).count());
+                walked += 1;
+            }
+        }
+        (common, walked)
     }
-    out
 }
 
 #[cfg(test)]
@@ -91,6 +130,8 @@ mod tests {
 
     #[test]
     fn the_arriving_list_is_common_to_all_finished_ones() {
-        assert_eq!(check(300, 1).map(|extensions| extensions > 300), Ok(true));
+        for tried in &TRIED {
+            assert_eq!(check(tried.arriving, 300, 1).map(|extensions| extensions > 300), Ok(true));
+        }
     }
 }

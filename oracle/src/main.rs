@@ -16,7 +16,7 @@ oracle files WORDS FOLDER --answers CMD          the same over the real files of
 oracle cuts WORDS FOLDER --answers CMD           the same over these files at every cut and end, and damaged
 oracle every WORDS --answers CMD                 the same over every small case
 oracle record WORDS COUNT SEED FOLDER            a sample, as FOLDER/cases.txt and FOLDER/answers.txt
-oracle arriving COUNT SEED                       the arriving walk beside all short extensions";
+oracle arriving COUNT SEED [WORD]                an arriving walk beside all short extensions";
 
 fn main() {
     let args: Vec<String> = std::env::args().skip(1).collect();
@@ -30,7 +30,8 @@ fn main() {
         ["every", words, "--answers", command] => compare_every(words, command),
         ["cuts", words, folder, "--answers", command] => compare_cuts(words, folder, command),
         ["record", words, count, seed, folder] => write_sample(words, number(count), number(seed), folder),
-        ["arriving", count, seed] => arriving_beside_extensions(number(count), number(seed)),
+        ["arriving", count, seed] => arriving_beside_extensions("passarrive", number(count), number(seed)),
+        ["arriving", count, seed, word] => arriving_beside_extensions(word, number(count), number(seed)),
         _ => usage(),
     };
     match done {
@@ -134,9 +135,9 @@ fn write_sample(words: &str, count: u64, seed: u64, folder: &str) -> Result<bool
     Ok(true)
 }
 
-fn arriving_beside_extensions(count: u64, seed: u64) -> Result<bool> {
-    match arriving::check(count, seed) {
-        Ok(extensions) => println!("arriving {count} {seed} no difference, {extensions} extensions"),
+fn arriving_beside_extensions(word: &str, count: u64, seed: u64) -> Result<bool> {
+    match arriving::check(word, count, seed) {
+        Ok(extensions) => println!("{word} {count} {seed} no difference, {extensions} extensions"),
         Err(difference) => {
             println!("{difference}");
             return Ok(false);

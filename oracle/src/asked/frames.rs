@@ -1,9 +1,9 @@
-//! The frame walks of document 01 as its sentences say them, with L9's counts.
+//! The frame walks of document 01 as its sentences say them, with L9's counts, and L13's arriving form.
 
 use crate::arri::mxf::reach::is_frame;
 use crate::canon::mxf_packs::KEYS;
 use crate::mxf::same_ul;
-use crate::plain::{finished_step, search};
+use crate::plain::{arriving_search, arriving_step, finished_step, search};
 use crate::sony::mxf::reach::LABEL;
 use crate::words::Record;
 
@@ -29,11 +29,15 @@ pub struct Given {
 }
 
 /// A frame walk over the steps and searches of a walk: it steps over every record but an over-long frame, from whose value it
-/// searches.
-pub fn frames(kind: &Kind, step: impl Fn(usize) -> Result<Record, usize>, search: impl Fn(usize) -> usize) -> Vec<Given> {
+/// searches. The last cursor is with what it gives.
+fn frames(kind: &Kind, step: impl Fn(usize) -> Result<Record, usize>, search: impl Fn(usize) -> usize) -> (Vec<Given>, usize) {
     let mut given = Vec::new();
     let (mut at, mut since, mut numbers) = (0, 0, 0..);
-    while let Ok(record) = step(at) {
+    loop {
+        let record = match step(at) {
+            Ok(record) => record,
+            Err(cursor) => return (given, cursor),
+        };
         let is_frame = (kind.is_frame)(&record.label);
         let over_long = is_frame && record.length > kind.longest;
         let passed = record.place - since;
@@ -42,10 +46,14 @@ pub fn frames(kind: &Kind, step: impl Fn(usize) -> Result<Record, usize>, search
             given.push(Given { number: if is_frame { numbers.next() } else { None }, record, over_long, passed });
         }
     }
-    given
 }
 
 /// The frames of the finished walk up to an end.
 pub fn finished_frames(bytes: &[u8], e: usize, kind: &Kind) -> Vec<Given> {
-    frames(kind, |p| finished_step(bytes, e, p), |from| search(bytes, from, e))
+    frames(kind, |p| finished_step(bytes, e, p), |from| search(bytes, from, e)).0
+}
+
+/// The frames of the arriving walk within a limit, and the place where it waits.
+pub fn arriving_frames(bytes: &[u8], limit: u64, kind: &Kind) -> (Vec<Given>, usize) {
+    frames(kind, |p| arriving_step(bytes, limit, p), |from| arriving_search(bytes, from).unwrap_or_else(|at| at))
 }

@@ -1,6 +1,7 @@
 //! Document 02's requests read plainly, one file a request: as its sentences say it, and as slowly as they say it. Wherever
 //! the published Rust has an answer, it is the judge.
 
+pub mod certain;
 pub mod fed;
 pub mod forms;
 pub mod frames;
@@ -21,11 +22,25 @@ const REQUESTS: &[Request] = &[
     (strict::WORDS, strict::put),
     (random_index::WORDS, random_index::put),
     (fed::WORDS, fed::put),
+    (certain::WORDS, certain::put),
 ];
 
 /// The words that take any part of a file.
-pub const TAKING: &[&str] =
-    &["forms", "formrun", "passed", "passarrive", "passsony", "passarri", "passcanon", "strict", "rip", "fed", "fedend"];
+pub const TAKING: &[&str] = &[
+    "forms",
+    "formrun",
+    "passed",
+    "passarrive",
+    "passsony",
+    "passarri",
+    "passcanon",
+    "strict",
+    "rip",
+    "fed",
+    "fedend",
+    "sonyarrive",
+    "arriarrive",
+];
 
 /// The words of all requests.
 pub fn words() -> impl Iterator<Item = Word> {

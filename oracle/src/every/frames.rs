@@ -26,6 +26,26 @@ pub fn arri() -> Buffers {
     Box::new(sequences(with_others(ARRI), 0..=5))
 }
 
+/// A few of ST 436 elements among others.
+pub fn few_sony() -> Buffers {
+    Box::new(sequences(with_others(SONY), 0..=3))
+}
+
+/// A few of ARRI's elements among others, and an over-long one.
+pub fn few_arri() -> Buffers {
+    Box::new(sequences(with_others(ARRI), 0..=3).chain(over_long()))
+}
+
+/// An over-long element of ARRI's with a frame in it and one behind it, cut at both ends of these.
+pub fn over_long() -> Buffers {
+    let label = hex("060e2b34010201010d01030117010f00").remove(0);
+    let frame = [&label[..], &[0]].concat();
+    let inside = [&[0; 81][..], &frame, &[0; 8193 - 81 - 17]].concat();
+    let file = [&label[..], &[0x82, 0x20, 0x01], &inside, &frame].concat();
+    let ends = [18, 19, 99, 100, 116, 117, 118, 8210, 8211, 8212, 8213, 8228, 8229];
+    Box::new(ends.into_iter().map(move |end| file[..end].to_vec()))
+}
+
 /// Canon's values and ST 436 elements among others.
 pub fn canon() -> Buffers {
     Box::new(sequences(with_others(CANON), 0..=5))

@@ -1,5 +1,6 @@
 //! Cases of the words of 02's requests.
 
+mod certain;
 mod fed;
 mod forms;
 mod passed;
@@ -27,6 +28,16 @@ pub fn case(word: &'static str, random: &mut Random) -> Option<Case> {
         "rip" => random_index::rip(random),
         "fed" => fed::fed(random),
         "fedend" => fed::fed_end(random),
+        "sonyarrive" => certain::sony(random),
+        "arriarrive" => certain::arri(random),
+        "fedsony" => {
+            let case = certain::sony(random);
+            certain::fed(random, case)
+        }
+        "fedarri" => {
+            let case = certain::arri(random);
+            certain::fed(random, case)
+        }
         _ => return None,
     };
     case.word = word;

@@ -23,6 +23,10 @@ pub fn cases(word: &'static str) -> Option<Cases> {
         "rip" => alone(word, packs::random_indexes()),
         "fed" => fed::cut(of(word, walk::few(), within)),
         "fedend" => fed::cut(of(word, walk::few(), known)),
+        "sonyarrive" => of(word, frames::sony(), within),
+        "arriarrive" => of(word, Box::new(frames::arri().chain(frames::over_long())), within),
+        "fedsony" => fed::cut(of(word, frames::few_sony(), holding)),
+        "fedarri" => fed::cut(of(word, frames::few_arri(), holding)),
         _ => return None,
     })
 }
@@ -52,4 +56,9 @@ fn within(bytes: &[u8]) -> Vec<Vec<u64>> {
 fn known(bytes: &[u8]) -> Vec<Vec<u64>> {
     let end = bytes.len() as u64;
     [end.saturating_sub(1), end, end + 1].map(|end| vec![end]).to_vec()
+}
+
+/// Those of them that hold the buffer.
+fn holding(bytes: &[u8]) -> Vec<Vec<u64>> {
+    within(bytes).into_iter().filter(|limit| limit[0] >= bytes.len() as u64).collect()
 }
