@@ -59,6 +59,7 @@ pub fn case(word: &str, part: &[u8]) -> Case {
     let number = |field: &Field| match field {
         Field::End => Some(part.len() as u64),
         Field::Number => Some(2 * part.len() as u64),
+        Field::Depth => Some(8),
         Field::Room => Some(LONGEST as u64),
         _ => None,
     };

@@ -16,6 +16,8 @@ pub enum Field {
     Number,
     /// 0 or 1.
     Coding,
+    /// An outline's depth.
+    Depth,
     /// The length of a lent output.
     Room,
     /// Digits that say how the bytes are cut.
@@ -117,7 +119,7 @@ impl Case {
     /// Takes a field's number, if it is one.
     fn take_number(&mut self, field: Field, text: &str) -> Option<()> {
         let count = match field {
-            Field::End | Field::Number | Field::Coding | Field::Room => self.bytes.len(),
+            Field::End | Field::Number | Field::Coding | Field::Depth | Field::Room => self.bytes.len(),
             Field::OtherEnd => self.other.len(),
             _ => return Some(()),
         };

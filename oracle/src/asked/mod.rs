@@ -6,9 +6,12 @@ pub mod fed;
 pub mod forms;
 pub mod frames;
 pub mod groups;
+pub mod outline;
 pub mod passed;
 pub mod random_index;
 pub mod strict;
+
+use std::fmt::Write;
 
 use crate::line::{Case, Field, Word};
 
@@ -23,6 +26,7 @@ const REQUESTS: &[Request] = &[
     (random_index::WORDS, random_index::put),
     (fed::WORDS, fed::put),
     (certain::WORDS, certain::put),
+    (outline::WORDS, outline::put),
 ];
 
 /// The words that take any part of a file.
@@ -40,11 +44,21 @@ pub const TAKING: &[&str] = &[
     "fedend",
     "sonyarrive",
     "arriarrive",
+    "outline",
 ];
 
 /// The words of all requests.
 pub fn words() -> impl Iterator<Item = Word> {
     REQUESTS.iter().flat_map(|(words, _)| words.iter().copied())
+}
+
+/// Puts what was written into a lent output, or refusal 3 where it is longer than its room.
+fn put_bounded(out: &mut String, needed: usize, room: u64, written: impl FnOnce() -> String) {
+    match needed {
+        0 => out.push('-'),
+        _ if needed as u64 > room => write!(out, "refused 3 {needed}").unwrap(),
+        _ => out.push_str(&written()),
+    }
 }
 
 /// The answer to a case of a request.

@@ -3,6 +3,7 @@
 mod certain;
 mod fed;
 mod forms;
+mod outline;
 mod passed;
 mod random_index;
 mod strict;
@@ -38,6 +39,7 @@ pub fn case(word: &'static str, random: &mut Random) -> Option<Case> {
             let case = certain::arri(random);
             certain::fed(random, case)
         }
+        "outline" => outline::outline(random),
         _ => return None,
     };
     case.word = word;

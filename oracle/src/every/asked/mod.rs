@@ -27,6 +27,7 @@ pub fn cases(word: &'static str) -> Option<Cases> {
         "arriarrive" => of(word, Box::new(frames::arri().chain(frames::over_long())), within),
         "fedsony" => fed::cut(of(word, frames::few_sony(), holding)),
         "fedarri" => fed::cut(of(word, frames::few_arri(), holding)),
+        "outline" => of(word, packs::nested_sets(), |bytes| (0..=5).map(|depth| vec![bytes.len() as u64, depth, 999]).collect()),
         _ => return None,
     })
 }

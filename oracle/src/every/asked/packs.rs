@@ -1,4 +1,4 @@
-//! Every buffer of `rip`.
+//! Every buffer of `rip` and `outline`.
 
 use crate::every::pieces::{Buffers, cut, hex, one_of_each, sequences};
 
@@ -20,4 +20,11 @@ pub fn random_indexes() -> Buffers {
         sizes(),
     ]);
     Box::new(all.chain(cut(few)))
+}
+
+/// Sets of each coding around items, runs and sets, their lengths right or not.
+pub fn nested_sets() -> Buffers {
+    const PIECES: &str = "060e2b34025301010d01010101012f00 060e2b34021301010d01010101012f00 060e2b34024301010d01030104010301 \
+        060e2b34026301010d01010101012f00 00 04 15 14880011 880011 88 0002 ff";
+    Box::new(sequences(hex(PIECES), 0..=5))
 }
