@@ -10,10 +10,11 @@ pub mod outline;
 pub mod passed;
 pub mod random_index;
 pub mod strict;
+pub mod written;
 
 use std::fmt::Write;
 
-use crate::line::{Case, Field, Word};
+use crate::line::{Case, Field, Word, put_hex};
 
 /// A request's words and what answers their cases.
 type Request = (&'static [Word], fn(&mut String, &Case));
@@ -27,6 +28,7 @@ const REQUESTS: &[Request] = &[
     (fed::WORDS, fed::put),
     (certain::WORDS, certain::put),
     (outline::WORDS, outline::put),
+    (written::WORDS, written::put),
 ];
 
 /// The words that take any part of a file.
@@ -45,6 +47,7 @@ pub const TAKING: &[&str] = &[
     "sonyarrive",
     "arriarrive",
     "outline",
+    "rewrite",
 ];
 
 /// The words of all requests.
@@ -59,6 +62,13 @@ fn put_bounded(out: &mut String, needed: usize, room: u64, written: impl FnOnce(
         _ if needed as u64 > room => write!(out, "refused 3 {needed}").unwrap(),
         _ => out.push_str(&written()),
     }
+}
+
+/// Puts bytes that were written into a lent output as hex, or refusal 3.
+fn put_written(out: &mut String, bytes: &[u8], room: u64) {
+    let mut hex = String::new();
+    put_hex(&mut hex, bytes);
+    put_bounded(out, bytes.len(), room, || hex);
 }
 
 /// The answer to a case of a request.

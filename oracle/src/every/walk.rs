@@ -79,11 +79,17 @@ fn valued() -> impl Iterator<Item = Vec<u8>> + Send {
 
 /// Every power of two and the numbers on both sides of it, and the largest, as a length of every size that holds them.
 fn boundaries() -> impl Iterator<Item = Vec<u8>> + Send {
+    let sizes = |number| (1..=9).filter(move |size| holds(*size, number)).map(move |size| encoded(number, size));
+    boundary_numbers().into_iter().flat_map(sizes)
+}
+
+/// Every power of two and the numbers on both sides of it, and the largest.
+pub fn boundary_numbers() -> Vec<u64> {
     let powers = (0..64).map(|power| 1u64 << power);
     let mut numbers: Vec<u64> = powers.flat_map(|power| [power - 1, power, power + 1]).chain([u64::MAX - 1, u64::MAX]).collect();
     numbers.sort_unstable();
     numbers.dedup();
-    numbers.into_iter().flat_map(|number| (1..=9).filter(move |size| holds(*size, number)).map(move |size| encoded(number, size)))
+    numbers
 }
 
 /// The alphabet of single bytes.

@@ -7,6 +7,7 @@ mod outline;
 mod passed;
 mod random_index;
 mod strict;
+mod written;
 
 use super::random::Random;
 use super::{canon, sony, walk};
@@ -40,6 +41,7 @@ pub fn case(word: &'static str, random: &mut Random) -> Option<Case> {
             certain::fed(random, case)
         }
         "outline" => outline::outline(random),
+        "shortest" | "putlength" | "putklv" | "putitem" | "putprimer" | "putpack" | "rewrite" => written::case(word, random),
         _ => return None,
     };
     case.word = word;
@@ -59,4 +61,16 @@ fn of((numbers, bytes): (Vec<u64>, Vec<u8>)) -> Case {
 /// A case of numbers and bytes.
 fn numbered(numbers: impl Into<Vec<u64>>, bytes: Vec<u8>) -> Case {
     Case { numbers: numbers.into(), bytes, ..Case::default() }
+}
+
+/// A room near what is needed: enough mostly, just enough, one short or any.
+fn room(random: &mut Random, needed: usize) -> u64 {
+    let room = match random.below(8) {
+        0 => needed.saturating_sub(1),
+        1 => random.below(needed + 2),
+        2 => needed,
+        3 => 0,
+        _ => needed + random.below(100),
+    };
+    room as u64
 }

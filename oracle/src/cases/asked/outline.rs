@@ -1,7 +1,7 @@
 //! Cases of `outline`: sets of every coding, with runs in them that have sets again.
 
 use super::forms::field;
-use super::numbered;
+use super::{numbered, room};
 use crate::asked::outline::Outline;
 use crate::cases::random::Random;
 use crate::cases::sketch::{START, Sketch};
@@ -16,14 +16,7 @@ pub fn outline(random: &mut Random) -> Case {
         (true, 1..=8) => Outline::of(&sketch.bytes, end, depth).text.len(),
         _ => 0,
     };
-    let room = match random.below(8) {
-        0 => needed.saturating_sub(1),
-        1 => random.below(needed + 2),
-        2 => needed,
-        3 => 0,
-        _ => needed + random.below(100),
-    };
-    numbered([end, depth, room as u64], sketch.bytes)
+    numbered([end, depth, room(random, needed)], sketch.bytes)
 }
 
 /// Records, most of them sets, cut or damaged now and then.

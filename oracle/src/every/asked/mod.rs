@@ -2,6 +2,7 @@
 
 mod fed;
 mod packs;
+mod written;
 
 use super::pieces::Buffers;
 use super::{Cases, frames, limits, of, tables, walk};
@@ -28,6 +29,7 @@ pub fn cases(word: &'static str) -> Option<Cases> {
         "fedsony" => fed::cut(of(word, frames::few_sony(), holding)),
         "fedarri" => fed::cut(of(word, frames::few_arri(), holding)),
         "outline" => of(word, packs::nested_sets(), |bytes| (0..=5).map(|depth| vec![bytes.len() as u64, depth, 999]).collect()),
+        "shortest" | "putlength" | "putklv" | "putitem" | "putprimer" | "putpack" | "rewrite" => written::cases(word),
         _ => return None,
     })
 }
