@@ -6,6 +6,7 @@ pub mod fed;
 pub mod forms;
 pub mod frames;
 pub mod groups;
+pub mod index;
 pub mod outline;
 pub mod passed;
 pub mod random_index;
@@ -29,6 +30,7 @@ const REQUESTS: &[Request] = &[
     (certain::WORDS, certain::put),
     (outline::WORDS, outline::put),
     (written::WORDS, written::put),
+    (index::WORDS, index::put),
 ];
 
 /// The words that take any part of a file.

@@ -3,6 +3,7 @@
 mod certain;
 mod fed;
 mod forms;
+mod index;
 mod outline;
 mod passed;
 mod random_index;
@@ -42,6 +43,7 @@ pub fn case(word: &'static str, random: &mut Random) -> Option<Case> {
         }
         "outline" => outline::outline(random),
         "shortest" | "putlength" | "putklv" | "putitem" | "putprimer" | "putpack" | "rewrite" => written::case(word, random),
+        "index" => index::index(random),
         _ => return None,
     };
     case.word = word;

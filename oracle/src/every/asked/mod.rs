@@ -1,6 +1,7 @@
 //! Every small case of the words of 02's requests.
 
 mod fed;
+mod index;
 mod packs;
 mod written;
 
@@ -30,6 +31,7 @@ pub fn cases(word: &'static str) -> Option<Cases> {
         "fedarri" => fed::cut(of(word, frames::few_arri(), holding)),
         "outline" => of(word, packs::nested_sets(), |bytes| (0..=5).map(|depth| vec![bytes.len() as u64, depth, 999]).collect()),
         "shortest" | "putlength" | "putklv" | "putitem" | "putprimer" | "putpack" | "rewrite" => written::cases(word),
+        "index" => index::scripts(word, 0),
         _ => return None,
     })
 }

@@ -1,0 +1,38 @@
+//! Every small script.
+
+use crate::every::Cases;
+use crate::line::Case;
+
+/// Records that touch, overlap or don't fit, and positions in them.
+const OPERATIONS: [&str; 9] = [
+    "a:0:1:0:0",
+    "a:1:1:0:2",
+    "a:17:2:63:0",
+    "a:20:1:4095:18446744073709551615",
+    "a:20:10:0:0",
+    "a:281474976710656:1:0:0",
+    "f:0",
+    "f:19",
+    "f:37",
+];
+
+/// Every script of up to 5 operations over rooms of 0 to 3 records.
+pub fn scripts(word: &'static str, columns: u64) -> Cases {
+    Box::new(sequences(5).map(move |choice| {
+        let list = joined(choice.iter().map(|at| OPERATIONS[*at].to_string()));
+        [0, 16, 33, 48].map(|room| Case { word, numbers: vec![columns, room], list: list.clone(), ..Case::default() }).to_vec()
+    }))
+}
+
+/// Every sequence of at most so many of the operations.
+fn sequences(most: u32) -> impl Iterator<Item = Vec<usize>> + Send {
+    let all = OPERATIONS.len();
+    let choice = move |count: u32, number: usize| (0..count).map(|at| number / all.pow(at) % all).collect();
+    (0..=most).flat_map(move |count| (0..all.pow(count)).map(move |number| choice(count, number)))
+}
+
+/// Operations as a list.
+fn joined(operations: impl Iterator<Item = String>) -> String {
+    let list = operations.collect::<Vec<_>>().join(",");
+    if list.is_empty() { "-".into() } else { list }
+}
