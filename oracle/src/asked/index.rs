@@ -1,7 +1,8 @@
-//! L10: an index beside the file, 16 bytes a record.
+//! L10: an index beside the file, 16 bytes a record, in rows or by L12 in columns.
 
 use std::fmt::Write;
 
+use super::columns::columns_of;
 use crate::line::{Case, Field, Word, digits, put_bytes};
 
 pub const WORDS: &[Word] = &[("index", &[Field::Coding, Field::Room, Field::List])];
@@ -9,9 +10,9 @@ pub const WORDS: &[Word] = &[("index", &[Field::Coding, Field::Room, Field::List
 /// The answer to a case.
 pub fn put(out: &mut String, case: &Case) {
     let room = case.numbers[1] as usize;
-    match (case.numbers[0], script(&case.list, 0)) {
-        (0, Some(script)) => run(out, &script, room),
-        _ => out.push('?'),
+    match script(&case.list, 0) {
+        Some(script) => run(out, &script, room, case.numbers[0] == 1),
+        None => out.push('?'),
     }
 }
 
@@ -100,7 +101,7 @@ pub fn script(list: &str, more: usize) -> Option<Vec<Operation>> {
 }
 
 /// `index`: a script over a lent buffer of so many bytes, and the buffer after it.
-fn run(out: &mut String, script: &[Operation], room: usize) {
+fn run(out: &mut String, script: &[Operation], room: usize, columns: bool) {
     let mut entries: Vec<Entry> = Vec::new();
     for (letter, numbers) in script {
         if *letter == 'f' {
@@ -116,7 +117,8 @@ fn run(out: &mut String, script: &[Operation], room: usize) {
         }
     }
     out.push('|');
-    put_bytes(out, &rows(&entries, room));
+    let rows = rows(&entries, room);
+    put_bytes(out, &if columns { columns_of(&rows) } else { rows });
 }
 
 /// A lent buffer of zeros with entries in its first rows.

@@ -2,6 +2,7 @@
 //! the published Rust has an answer, it is the judge.
 
 pub mod certain;
+pub mod columns;
 pub mod fed;
 pub mod forms;
 pub mod frames;
@@ -31,6 +32,7 @@ const REQUESTS: &[Request] = &[
     (outline::WORDS, outline::put),
     (written::WORDS, written::put),
     (index::WORDS, index::put),
+    (columns::WORDS, columns::put),
 ];
 
 /// The words that take any part of a file.

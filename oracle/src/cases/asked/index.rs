@@ -1,4 +1,4 @@
-//! Cases of `index`: scripts whose records touch, overlap or don't fit.
+//! Cases of `index` and `turn`: scripts whose records touch, overlap or don't fit.
 
 use crate::asked::index::{Entry, unfit};
 use crate::cases::random::Random;
@@ -7,7 +7,14 @@ use crate::line::Case;
 /// A room and a script.
 pub fn index(random: &mut Random) -> Case {
     let room = room(random, 6);
-    Case { numbers: vec![0, room], list: script(random), ..Case::default() }
+    Case { numbers: vec![random.below(2) as u64, room], list: script(random), ..Case::default() }
+}
+
+/// Rows or columns, and a room that holds them or not.
+pub fn turn(random: &mut Random) -> Case {
+    let count = room(random, 5) as usize;
+    let lent = super::room(random, count);
+    Case { numbers: vec![random.below(2) as u64, lent], bytes: random.bytes(count), ..Case::default() }
 }
 
 /// A room for a few records, and some bytes more.

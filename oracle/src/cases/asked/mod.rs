@@ -44,6 +44,7 @@ pub fn case(word: &'static str, random: &mut Random) -> Option<Case> {
         "outline" => outline::outline(random),
         "shortest" | "putlength" | "putklv" | "putitem" | "putprimer" | "putpack" | "rewrite" => written::case(word, random),
         "index" => index::index(random),
+        "turn" => index::turn(random),
         _ => return None,
     };
     case.word = word;

@@ -24,6 +24,16 @@ pub fn scripts(word: &'static str, columns: u64) -> Cases {
     }))
 }
 
+/// Bytes that are all different, of every count to 100, turned both ways.
+pub fn turned(word: &'static str) -> Cases {
+    Box::new((0..=100u8).map(move |count| {
+        let turned =
+            |(columns, room): (u64, u8)| Case { word, numbers: vec![columns, room as u64], bytes: (0..count).collect(), ..Case::default() };
+        let rooms = [0, count.saturating_sub(1), count, count + 1];
+        rooms.iter().flat_map(|room| [(0, *room), (1, *room)]).map(turned).collect()
+    }))
+}
+
 /// Every sequence of at most so many of the operations.
 fn sequences(most: u32) -> impl Iterator<Item = Vec<usize>> + Send {
     let all = OPERATIONS.len();

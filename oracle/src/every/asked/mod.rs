@@ -31,7 +31,8 @@ pub fn cases(word: &'static str) -> Option<Cases> {
         "fedarri" => fed::cut(of(word, frames::few_arri(), holding)),
         "outline" => of(word, packs::nested_sets(), |bytes| (0..=5).map(|depth| vec![bytes.len() as u64, depth, 999]).collect()),
         "shortest" | "putlength" | "putklv" | "putitem" | "putprimer" | "putpack" | "rewrite" => written::cases(word),
-        "index" => index::scripts(word, 0),
+        "index" => Box::new(index::scripts(word, 0).chain(index::scripts(word, 1))),
+        "turn" => index::turned(word),
         _ => return None,
     })
 }
