@@ -11,6 +11,7 @@ pub mod index;
 pub mod outline;
 pub mod passed;
 pub mod random_index;
+pub mod shared;
 pub mod strict;
 pub mod written;
 
@@ -33,6 +34,7 @@ const REQUESTS: &[Request] = &[
     (written::WORDS, written::put),
     (index::WORDS, index::put),
     (columns::WORDS, columns::put),
+    (shared::WORDS, shared::put),
 ];
 
 /// The words that take any part of a file.

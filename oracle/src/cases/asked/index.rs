@@ -1,4 +1,4 @@
-//! Cases of `index` and `turn`: scripts whose records touch, overlap or don't fit.
+//! Cases of `index`, `turn` and `shared`: scripts whose records touch, overlap or don't fit.
 
 use crate::asked::index::{Entry, unfit};
 use crate::cases::random::Random;
@@ -15,6 +15,34 @@ pub fn turn(random: &mut Random) -> Case {
     let count = room(random, 5) as usize;
     let lent = super::room(random, count);
     Case { numbers: vec![random.below(2) as u64, lent], bytes: random.bytes(count), ..Case::default() }
+}
+
+/// A room, two shares that mostly fit it, and a script over two files.
+pub fn shared(random: &mut Random) -> Case {
+    let room = room(random, 6);
+    let whole = room as usize / 16;
+    let a = random.below(whole + 1);
+    let b = if random.percent(92) { random.below(whole - a + 1) } else { whole - a + 1 };
+    let b = if random.percent(2) { random.edge() } else { b as u64 };
+    let mut files = [Vec::new(), Vec::new()];
+    let operations: Vec<String> = (0..random.below(20)).map(|turn| of_a_file(random, &mut files, turn)).collect();
+    let list = if operations.is_empty() { "-".into() } else { operations.join(",") };
+    Case { numbers: vec![random.below(2) as u64, room, a as u64, b], list, ..Case::default() }
+}
+
+/// Opens a file, which the first operations mostly do, closes it, or adds to it or asks it.
+fn of_a_file(random: &mut Random, files: &mut [Vec<Entry>; 2], turn: usize) -> String {
+    let file = random.below(2);
+    let named = if random.percent(3) { *random.one(&[2, 3, u64::MAX]) } else { file as u64 };
+    match random.below(14) {
+        _ if turn < 2 && random.percent(80) => format!("o:{turn}"),
+        0 => format!("o:{named}"),
+        1 => {
+            files[file].clear();
+            if random.percent(60) { format!("c:{named},o:{named}") } else { format!("c:{named}") }
+        }
+        _ => operation(random, &mut files[file], &format!("{named}:")),
+    }
 }
 
 /// A room for a few records, and some bytes more.

@@ -45,6 +45,7 @@ pub fn case(word: &'static str, random: &mut Random) -> Option<Case> {
         "shortest" | "putlength" | "putklv" | "putitem" | "putprimer" | "putpack" | "rewrite" => written::case(word, random),
         "index" => index::index(random),
         "turn" => index::turn(random),
+        "shared" => index::shared(random),
         _ => return None,
     };
     case.word = word;

@@ -33,6 +33,7 @@ pub fn cases(word: &'static str) -> Option<Cases> {
         "shortest" | "putlength" | "putklv" | "putitem" | "putprimer" | "putpack" | "rewrite" => written::cases(word),
         "index" => Box::new(index::scripts(word, 0).chain(index::scripts(word, 1))),
         "turn" => index::turned(word),
+        "shared" => index::shared(word),
         _ => return None,
     })
 }
