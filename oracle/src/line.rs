@@ -211,7 +211,20 @@ mod tests {
 
     #[test]
     fn a_line_and_its_case_are_the_same() {
-        for text in ["ber -", "walk 3 060e", "step 0 18446744073709551615 00", "items 1 8200", "canon 0 -"] {
+        for text in [
+            "ber -",
+            "walk 3 060e",
+            "step 0 18446744073709551615 00",
+            "items 1 8200",
+            "canon 0 -",
+            "fed 7 012 00",
+            "putklv 1 2 060e2b340101010d0e15000100010000 aa",
+            "putpack 2 5 1,3,1",
+            "shared 1 64 1 2 o:0,f:0:1",
+            "index 0 0 -",
+            "shortest 0",
+            "takes 1 0 00 -",
+        ] {
             assert_eq!(parse(text).map(|case| case.line()).as_deref(), Some(text));
         }
     }
@@ -219,6 +232,7 @@ mod tests {
     #[test]
     fn n_is_the_number_of_bytes() {
         assert_eq!(parse("walk n 0102").unwrap().numbers, [2]);
+        assert_eq!(parse("takes n n 0102 -").unwrap().numbers, [2, 0]);
     }
 
     #[test]
@@ -239,6 +253,12 @@ mod tests {
             "walk 18446744073709551616 00",
             "BER 00",
             "ber 00\r",
+            "fed 1 - 00",
+            "fed 1 1a 00",
+            "putklv 1 2 aa aa",
+            "index 2 0 -",
+            "index 0 0 a 1",
+            "takes 0 0 00",
         ] {
             assert_eq!(parse(text), None, "{text:?}");
         }

@@ -13,6 +13,7 @@ pub mod passed;
 pub mod random_index;
 pub mod shared;
 pub mod strict;
+pub mod takes;
 pub mod written;
 
 use std::fmt::Write;
@@ -35,6 +36,7 @@ const REQUESTS: &[Request] = &[
     (index::WORDS, index::put),
     (columns::WORDS, columns::put),
     (shared::WORDS, shared::put),
+    (takes::WORDS, takes::put),
 ];
 
 /// The words that take any part of a file.

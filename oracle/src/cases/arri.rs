@@ -4,12 +4,12 @@ use super::random::Random;
 use super::sketch::{LABELS, Sketch, encoded, form};
 use super::tables::damaged;
 
-const PICTURE_METADATA: [u8; 16] = LABELS[3];
-const FRAME_DATA: [u8; 16] = LABELS[4];
+pub const PICTURE_METADATA: [u8; 16] = LABELS[3];
+pub const FRAME_DATA: [u8; 16] = LABELS[4];
 const LENS_UNIT_SET: [u8; 16] = LABELS[8];
 
 /// The places of the fields of 4 bytes in ARRI's 256.
-const FIELDS: [usize; 11] = [0x50, 0x54, 0xa4, 0xa8, 0xac, 0xc0, 0xe0, 0xe4, 0xe8, 0xec, 0xfc];
+pub const FIELDS: [usize; 11] = [0x50, 0x54, 0xa4, 0xa8, 0xac, 0xc0, 0xe0, 0xe4, 0xe8, 0xec, 0xfc];
 
 /// Numbers of 32 bits where something changes: sentinels, signs, what an f32 rounds, infinities and what is none.
 const EDGES: [u32; 24] = [
@@ -98,7 +98,7 @@ pub fn dynamic(random: &mut Random) -> Vec<u8> {
 }
 
 /// So many items with a tag of 1 and a length of 2, those of 88h holding runs.
-fn picture_metadata(random: &mut Random, count: usize, full: bool) -> Vec<u8> {
+pub fn picture_metadata(random: &mut Random, count: usize, full: bool) -> Vec<u8> {
     let mut bytes = Vec::new();
     for _ in 0..count {
         let run = random.percent(75);
@@ -173,7 +173,7 @@ pub fn alexa(random: &mut Random) -> Vec<u8> {
 }
 
 /// So many sets of ARRI's items, their own labels being of any kind.
-fn alexa_sets(random: &mut Random, count: usize) -> Vec<u8> {
+pub fn alexa_sets(random: &mut Random, count: usize) -> Vec<u8> {
     let mut bytes = Vec::new();
     for _ in 0..count {
         let mut set = Vec::new();

@@ -8,6 +8,7 @@ mod outline;
 mod passed;
 mod random_index;
 mod strict;
+mod takes;
 mod written;
 
 use super::random::Random;
@@ -46,6 +47,7 @@ pub fn case(word: &'static str, random: &mut Random) -> Option<Case> {
         "index" => index::index(random),
         "turn" => index::turn(random),
         "shared" => index::shared(random),
+        "takes" => takes::takes(random),
         _ => return None,
     };
     case.word = word;

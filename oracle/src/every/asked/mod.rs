@@ -3,6 +3,7 @@
 mod fed;
 mod index;
 mod packs;
+mod takes;
 mod written;
 
 use super::pieces::Buffers;
@@ -34,6 +35,7 @@ pub fn cases(word: &'static str) -> Option<Cases> {
         "index" => Box::new(index::scripts(word, 0).chain(index::scripts(word, 1))),
         "turn" => index::turned(word),
         "shared" => index::shared(word),
+        "takes" => takes::pairs(word),
         _ => return None,
     })
 }
