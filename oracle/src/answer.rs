@@ -1,4 +1,4 @@
-//! The answer to a line: the published Rust's where it has one, else that of document 01 or 02 read plainly.
+//! The answer to a line: the published Rust's where it has one, else that of the rules, or of a request, read plainly.
 
 use crate::line::{Case, parse};
 use crate::{asked, plain, words};

@@ -7,7 +7,7 @@ use crate::asked;
 use crate::cases::random::Random;
 use crate::line::{self, Case, Field, LONGEST};
 
-/// The words of document 01 that take any part of a file.
+/// The words of the base that take any part of a file.
 const TAKING: [&str; 8] = ["walk", "klvs", "arrive", "tally", "header", "sony", "arri", "canon"];
 
 /// Whether a word takes any part of a file.

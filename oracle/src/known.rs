@@ -1,9 +1,9 @@
-//! Where document 01 has another answer than the published Rust: each with its rule and its smallest case, and none silently.
+//! Where the rules have another answer than the published Rust: each with its rule and its smallest case, and none silently.
 
 use crate::answer;
 use crate::line::{Case, parse};
 
-/// A difference that is known: which cases it is about, and what document 01 has for them.
+/// A difference that is known: which cases it is about, and what the rules have for them.
 pub struct Known {
     pub name: &'static str,
     pub rule: &'static str,
@@ -16,7 +16,7 @@ pub struct Known {
 /// All that are known.
 pub const KNOWN: [Known; 1] = [Known {
     name: "size-0",
-    rule: "01, The walk, 1: with e = 0 it is over at once. The Rust takes a size of 0 for the whole stream.",
+    rule: "The walk, 1: with e = 0 it is over at once. The Rust takes a size of 0 for the whole stream.",
     smallest: "sony 0 060e2b34010201010d0103011701020100",
     about: |case| matches!(case.word, "sony" | "canon") && case.numbers[0] == 0,
     answer: |_| String::new(),
@@ -28,7 +28,7 @@ pub fn of(line: &str) -> Option<&'static Known> {
     KNOWN.iter().find(|known| (known.about)(&case) && (known.answer)(&case) != answer::answer(line))
 }
 
-/// What the port is to answer: the Rust's answer, or document 01's where a difference is known.
+/// What the port is to answer: the Rust's answer, or the rules' where a difference is known.
 pub fn expected(line: &str) -> (String, Option<&'static Known>) {
     match of(line) {
         Some(known) => ((known.answer)(&parse(line).expect("a case")), Some(known)),

@@ -35,7 +35,7 @@ pub enum Field {
 /// A word with its fields.
 pub type Word = (&'static str, &'static [Field]);
 
-/// Every word of document 01.
+/// Every word of the base.
 pub const WORDS: [Word; 20] = [
     ("ber", &[Field::Bytes]),
     ("walk", &[Field::End, Field::Bytes]),
@@ -59,7 +59,7 @@ pub const WORDS: [Word; 20] = [
     ("canon", &[Field::End, Field::Bytes]),
 ];
 
-/// Every word, of document 01 and of 02's requests.
+/// Every word, of the base and of the requests.
 pub fn words() -> impl Iterator<Item = Word> {
     WORDS.into_iter().chain(asked::words())
 }

@@ -9,7 +9,7 @@ use oracle::{answer, arriving, cases, cuts, every, files, known, line, record};
 
 const USAGE: &str = "\
 oracle answer                                    the Rust's answer for each line of the standard input
-oracle expected                                  the same, with document 01's where a difference is known
+oracle expected                                  the same, with the rules' where a difference is known
 oracle cases WORDS COUNT SEED                    cases of each word
 oracle compare WORDS COUNT SEED --answers CMD    the port's answers beside the expected ones
 oracle files WORDS FOLDER --answers CMD          the same over the real files of a folder

@@ -1,4 +1,4 @@
-//! No Rust to compare with: document 01 read plainly. The arriving walk, and the finished walk that it speaks of, as its
+//! No Rust to compare with: the rules (docs/RULES.md) read plainly. The arriving walk, and the finished walk that it speaks of, as its
 //! sentences say them and as slowly as they say it.
 
 use crate::words::{Record, put_number};

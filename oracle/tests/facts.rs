@@ -1,4 +1,4 @@
-//! Cases whose answers are written down elsewhere: docs/CASES.md, document 01's numbers, and where the two part.
+//! Cases whose answers are written down elsewhere: docs/CASES.md, the rules' numbers, and where the two part.
 
 use oracle::answer::answer;
 use oracle::known::expected;

@@ -1,4 +1,4 @@
-//! The frame walks of document 01 as its sentences say them, with L9's counts, and L13's arriving form.
+//! The frame walks as the rules say them, with L9's counts, and L13's arriving form.
 
 use crate::arri::mxf::reach::is_frame;
 use crate::canon::mxf_packs::KEYS;

@@ -1,4 +1,4 @@
-//! Document 02's requests read plainly, one file a request: as its sentences say it, and as slowly as they say it. Wherever
+//! The requests read plainly, one file a request: as its sentences say it, and as slowly as they say it. Wherever
 //! the published Rust has an answer, it is the judge.
 
 pub mod certain;
@@ -96,7 +96,7 @@ pub fn put(out: &mut String, case: &Case) {
 pub mod tests {
     use crate::answer::answer;
 
-    /// Document 02's key, which stands for K in its examples.
+    /// The key that stands for K in the requests' examples.
     pub const KEY: &str = "060e2b340101010d0e15000100010000";
 
     /// An ARRI element of 8,193 bytes at 0 with an empty frame at 100 in it, and another behind it at 8,212, as hex.

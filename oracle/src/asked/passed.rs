@@ -34,7 +34,7 @@ pub fn put(out: &mut String, case: &Case) {
     }
 }
 
-/// Puts a record as 02's `R`.
+/// Puts a record with its length field and the bytes passed before it.
 pub fn put_counted(out: &mut String, bytes: &[u8], record: &Record, passed: u64) {
     put_record(out, bytes, record);
     write!(out, ",{passed}").unwrap();

@@ -31,7 +31,7 @@ pub fn drawn(word: &'static str, count: u64, seed: u64) -> impl Iterator<Item = 
     (0..count).map(move |index| case(word, seed, index))
 }
 
-/// The numbers and bytes of a case of document 01.
+/// The numbers and bytes of a case of the base.
 fn numbers_and_bytes(word: &str, random: &mut Random) -> (Vec<u64>, Vec<u8>) {
     match word {
         "ber" => (vec![], walk::ber(random)),

@@ -38,7 +38,7 @@ fn of(word: &'static str, buffers: Buffers, numbers: impl Fn(&[u8]) -> Vec<Vec<u
     }))
 }
 
-/// Every buffer of a word of document 01.
+/// Every buffer of a word of the base.
 fn buffers(word: &str) -> Buffers {
     match word {
         "ber" => walk::lengths(),

@@ -89,7 +89,7 @@ impl<'a> Walker<'a> {
         Some(Record { place: self.stream.get_ref().label, label, value, length })
     }
 
-    /// The cursor: a length that is cut leaves it at its label (01, The walk, 1 and 3).
+    /// The cursor: a length that is cut leaves it at its label (The walk, 1 and 3).
     pub fn cursor(&mut self) -> u64 {
         let watched = self.stream.get_ref();
         if watched.cut { watched.label } else { self.position() }

@@ -1,4 +1,4 @@
-//! Cases of the words of 02's requests.
+//! Cases of the requests' words.
 
 mod certain;
 mod fed;
@@ -59,7 +59,7 @@ fn bytes(bytes: Vec<u8>) -> Case {
     numbered([], bytes)
 }
 
-/// A case as a word of document 01 has it.
+/// A case as a word of the base has it.
 fn of((numbers, bytes): (Vec<u64>, Vec<u8>)) -> Case {
     numbered(numbers, bytes)
 }

@@ -1,4 +1,4 @@
-//! Every small case of the words of 02's requests.
+//! Every small case of the requests' words.
 
 mod fed;
 mod index;
