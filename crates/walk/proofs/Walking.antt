@@ -19,11 +19,11 @@ use Rattle.walk.specs.Walk.{onTurn, turnsAtMost, walked}
 use Rattle.walk.proofs.Laws.{rules-moves, rules-record, Fit}
 
 module _ (s : List ℕ) (e : ℕ) where
-  turn-found : (again : ℕ → Walked) (p q : ℕ) → searchFrom s e q < e → onTurn again s e p (Search q) ≡ again (searchFrom s e q)
+  pub turn-found : (again : ℕ → Walked) (p q : ℕ) → searchFrom s e q < e → onTurn again s e p (Search q) ≡ again (searchFrom s e q)
   unfolding onTurn
   turn-found again p q h = simp (lt-ltb _ _ h)
 
-  turn-lost : (again : ℕ → Walked) (p q : ℕ) → e ≤ searchFrom s e q → onTurn again s e p (Search q) ≡ Lost q
+  pub turn-lost : (again : ℕ → Walked) (p q : ℕ) → e ≤ searchFrom s e q → onTurn again s e p (Search q) ≡ Lost q
   unfolding onTurn
   turn-lost again p q h = simp (le-ltb _ _ h)
 
@@ -56,6 +56,11 @@ module _ (limit : ℕ) (s : List ℕ) (e : ℕ) where
     pub walk-record : (k : Klv) → rules limit s e p ≡ Record k → walked limit s e p ≡ Found k
     unfolding onTurn
     walk-record k t = turn-by-turn p ∙ simp t
+
+    -- a search leads on whatever place asks for it
+    pub walk-search : (r q : ℕ) → rules limit s e p ≡ Search q → walked limit s e p ≡ onTurn (walked limit s e) s e r (Search q)
+    unfolding onTurn
+    walk-search r q t = turn-by-turn p ∙ simp t
 
     module _ (q : ℕ) (t : rules limit s e p ≡ Search q) where
       pub walk-on : searchFrom s e q < e → walked limit s e p ≡ walked limit s e (searchFrom s e q)

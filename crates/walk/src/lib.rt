@@ -4,7 +4,8 @@ ghost use mathlib.Core.Path.{_≡_};
 ghost use Prim.Native.Nat.{_≤_, max};
 ghost use lib.ListN.{length};
 ghost use Rattle.walk.specs.Rules.{rules};
-ghost use Rattle.walk.specs.Walk.{walked, finishedStep, arrivingStep};
+ghost use Rattle.walk.specs.declared.Turn.the-variants as turn;
+ghost use Rattle.walk.specs.Walk.{onTurn, walked, finishedStep, arrivingStep};
 ghost use Rattle.walk.specs.Told.{stepTold, arrivedTold};
 use klv::Klv;
 use lengths::Length;
@@ -74,25 +75,36 @@ pub enum Walked {
     Lost(usize),
 }
 
-// The rules from a place on, turn by turn.
-fn turns(s: &[u8], end: usize, limit: usize, from: usize) -> Walked
+// The rules from where a search from q on leads, turn by turn.
+fn searched(s: &[u8], end: usize, limit: usize, from: usize) -> Walked
     requires { ⌜ end ≤ length (now s) ⌝ }
-    ensures { λ r. ⌜ r ≡ walked limit (now (s .entry)) end from ⌝ }
+    ensures { λ r. ⌜ r ≡ onTurn (walked limit (now (s .entry)) end) (now (s .entry)) end from (turn.Search from) ⌝ }
 {
-    let mut p = from;
+    let mut q = from;
     loop {
+        let p = search::next_key(s, end, q);
+        if end <= p {
+            return Walked::Lost(q);
+        }
         let t = look(s, end, limit, p);
         match t {
             Turn::Stop => return Walked::Stopped(p),
             Turn::Record(k) => return Walked::Found(k),
-            Turn::Search(q) => {
-                let r = search::next_key(s, end, q);
-                if end <= r {
-                    return Walked::Lost(q);
-                }
-                p = r;
-            }
+            Turn::Search(next) => q = next,
         }
+    }
+}
+
+// The rules from a place on, turn by turn. A search is apart, so that a record that starts there costs no more than a look.
+fn turns(s: &[u8], end: usize, limit: usize, p: usize) -> Walked
+    requires { ⌜ end ≤ length (now s) ⌝ }
+    ensures { λ r. ⌜ r ≡ walked limit (now (s .entry)) end p ⌝ }
+{
+    let t = look(s, end, limit, p);
+    match t {
+        Turn::Stop => Walked::Stopped(p),
+        Turn::Record(k) => Walked::Found(k),
+        Turn::Search(q) => searched(s, end, limit, q),
     }
 }
 
