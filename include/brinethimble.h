@@ -99,11 +99,13 @@ static inline int64_t brine_signed(uint64_t bits)
 /* ---- Lengths and labels ---------------------------------------------------------------------------------------------- */
 
 /* The BER length at a place of s.
- * out: found (BRINE_FOUND, BRINE_CUT, or BRINE_NOTHING where these bytes are no length), number, bytes that it took. */
+ * out: found (BRINE_FOUND, BRINE_CUT, or BRINE_NOTHING where these bytes are no length), number, bytes that it took (1 to 9),
+ * shortest (1), or 0 where fewer bytes would have held the number; 80h is not the shortest form of 0, 00h is. */
 #define BRINE_LENGTH_FOUND 0
 #define BRINE_LENGTH_NUMBER 1
 #define BRINE_LENGTH_BYTES 2
-#define BRINE_LENGTH_PLACES 3
+#define BRINE_LENGTH_SHORTEST 3
+#define BRINE_LENGTH_PLACES 4
 uint32_t brine_length(const uint8_t *s, size_t s_len, size_t at, uint64_t out[BRINE_LENGTH_PLACES]);
 
 /* Whether two labels are the same: both have 16 bytes and agree in all but the byte at 7. */
@@ -116,7 +118,8 @@ size_t brine_next_key(const uint8_t *s, size_t s_len, size_t end, size_t from);
 /* ---- The walk: records of a file ------------------------------------------------------------------------------------- */
 
 /* A step of the finished walk of s with an end, from a cursor; the first cursor is 0.
- * out: found, record's place (its 16 label bytes start there), value's place, value's length, next cursor.
+ * out: found, record's place (its 16 label bytes start there), value's place, value's length, next cursor, bytes of its length
+ * field, shortest (1) or not (0): as brine_length.
  * BRINE_NOTHING: the walk is over, and the next cursor is where.
  * An empty value may begin past the end. Status: BRINE_DONE, BRINE_END_PAST_BUFFER. */
 #define BRINE_RECORD_FOUND 0
@@ -124,7 +127,9 @@ size_t brine_next_key(const uint8_t *s, size_t s_len, size_t end, size_t from);
 #define BRINE_RECORD_VALUE 2
 #define BRINE_RECORD_LENGTH 3
 #define BRINE_RECORD_NEXT 4
-#define BRINE_RECORD_PLACES 5
+#define BRINE_RECORD_LENGTH_BYTES 5
+#define BRINE_RECORD_SHORTEST 6
+#define BRINE_RECORD_PLACES 7
 uint32_t brine_step(const uint8_t *s, size_t s_len, size_t end, size_t at, uint64_t out[BRINE_RECORD_PLACES]);
 
 /* A step of the arriving walk: a is all that has arrived so far of an upload of at most `limit` bytes. A record that is
@@ -133,10 +138,17 @@ uint32_t brine_step(const uint8_t *s, size_t s_len, size_t end, size_t at, uint6
  * Status: BRINE_DONE, BRINE_PAST_LIMIT. */
 uint32_t brine_arrive(const uint8_t *a, size_t a_len, size_t limit, size_t at, uint64_t out[BRINE_RECORD_PLACES]);
 
-/* Steps of the finished walk until the lent room is full or the walk is over. Each record takes three places of `records`:
- * its place, its value's place, its value's length; places past the last record keep their contents.
- * out: how many records were put, next cursor. The walk is over if there was room for more (records_len / 3).
+/* Steps of the finished walk until the lent room is full or the walk is over. Each record takes
+ * BRINE_BATCH_PLACES places of `records`: its place, its value's place, its value's length, bytes of its length field, shortest
+ * (1) or not (0); places past the last record keep their contents.
+ * out: how many records were put, next cursor. The walk is over if there was room for more (records_len / BRINE_BATCH_PLACES).
  * Status: BRINE_DONE, BRINE_END_PAST_BUFFER. */
+#define BRINE_BATCH_PLACE 0
+#define BRINE_BATCH_VALUE 1
+#define BRINE_BATCH_LENGTH 2
+#define BRINE_BATCH_LENGTH_BYTES 3
+#define BRINE_BATCH_SHORTEST 4
+#define BRINE_BATCH_PLACES 5
 #define BRINE_RECORDS_PUT 0
 #define BRINE_RECORDS_NEXT 1
 #define BRINE_RECORDS_PLACES 2
@@ -167,7 +179,7 @@ uint32_t brine_run(const uint8_t *s, size_t s_len, size_t at, uint64_t out[BRINE
 
 /* A step over the items of a set: a tag of `tag` bytes, then a BER length (ber) or one of two bytes, then the value.
  * By the set's label byte 5: 53h is (2, false), 13h is (2, true), 43h is (1, false).
- * out: as brine_run; the tag stands at the record's place. */
+ * out: as brine_run; the tag stands at the record's place. A length of two bytes is 2 bytes and shortest. */
 uint32_t brine_item(const uint8_t *s, size_t s_len, size_t tag, bool ber, size_t at, uint64_t out[BRINE_RECORD_PLACES]);
 
 /* ---- Tables ---------------------------------------------------------------------------------------------------------- */

@@ -45,7 +45,7 @@ fn walk(upload: &[u8], piece: usize, limit: usize) -> u64 {
     while arrived < upload.len() {
         arrived = upload.len().min(arrived + piece);
         loop {
-            let [found, _, _, _, next] = port::arrive(&upload[..arrived], limit, at);
+            let [found, _, _, _, next, ..] = port::arrive(&upload[..arrived], limit, at);
             at = next as usize;
             if found == 0 {
                 break;

@@ -9,29 +9,29 @@ pub fn next_key(s: &[u8], from: usize) -> usize {
 }
 
 /// What a step of the finished walk of all of s writes out.
-pub fn step(s: &[u8], at: usize) -> [u64; 5] {
-    let mut out = [0; 5];
+pub fn step(s: &[u8], at: usize) -> [u64; 7] {
+    let mut out = [0; 7];
     unsafe { brine_step(s.as_ptr(), s.len(), s.len(), at, &mut out) };
     out
 }
 
 /// What a step of the arriving walk writes out.
-pub fn arrive(a: &[u8], limit: usize, at: usize) -> [u64; 5] {
-    let mut out = [0; 5];
+pub fn arrive(a: &[u8], limit: usize, at: usize) -> [u64; 7] {
+    let mut out = [0; 7];
     unsafe { brine_arrive(a.as_ptr(), a.len(), limit, at, &mut out) };
     out
 }
 
 /// What a step of a run writes out.
-pub fn run(s: &[u8], at: usize) -> [u64; 5] {
-    let mut out = [0; 5];
+pub fn run(s: &[u8], at: usize) -> [u64; 7] {
+    let mut out = [0; 7];
     unsafe { brine_run(s.as_ptr(), s.len(), at, &mut out) };
     out
 }
 
 /// What a step over a set's items writes out.
-pub fn item(s: &[u8], tag: usize, ber: bool, at: usize) -> [u64; 5] {
-    let mut out = [0; 5];
+pub fn item(s: &[u8], tag: usize, ber: bool, at: usize) -> [u64; 7] {
+    let mut out = [0; 7];
     unsafe { brine_item(s.as_ptr(), s.len(), tag, ber, at, &mut out) };
     out
 }
@@ -118,7 +118,10 @@ pub fn camera_fields(s: &[u8]) -> u64 {
     v.count()
 }
 
-/// Puts records of the finished walk of all of s into lent room, three places each: how many, and the next cursor.
+/// The places of a record in lent room.
+pub const EACH: usize = 5;
+
+/// Puts records of the finished walk of all of s into lent room, `EACH` places each: how many, and the next cursor.
 pub fn records(s: &[u8], at: usize, room: &mut [u64]) -> [u64; 2] {
     let mut out = [0; 2];
     unsafe { brine_records(s.as_ptr(), s.len(), s.len(), at, room.as_mut_ptr(), room.len(), &mut out) };

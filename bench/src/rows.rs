@@ -109,7 +109,7 @@ fn near_keys(rows: &mut Vec<Row>) {
 fn walk(s: &[u8]) -> u64 {
     let (mut at, mut sum) = (0, 0u64);
     loop {
-        let [found, _, value, length, next] = port::step(s, at);
+        let [found, _, value, length, next, ..] = port::step(s, at);
         if found == 0 {
             return sum;
         }
@@ -148,13 +148,13 @@ fn walks(rows: &mut Vec<Row>) {
 /// The same sum, by exported calls that put up to 1,000 records each.
 fn batch_walk(s: &[u8]) -> u64 {
     let (mut at, mut sum) = (0, 0u64);
-    let mut room = [0; 3000];
+    let mut room = [0; 1000 * port::EACH];
     loop {
         let [count, next] = port::records(s, at, &mut room);
-        for record in room.chunks_exact(3).take(count as usize) {
+        for record in room.chunks_exact(port::EACH).take(count as usize) {
             sum = sum.wrapping_mul(31).wrapping_add(record[2] ^ record[1]);
         }
-        if (count as usize) < room.len() / 3 {
+        if (count as usize) < room.len() / port::EACH {
             return sum;
         }
         at = next as usize;

@@ -69,15 +69,15 @@ fn primers(rows: &mut Vec<Row>) {
 }
 
 /// The lengths that steps give, together, from the first cursor to the end.
-fn lengths(step: impl Fn(usize) -> [u64; 5]) -> u64 {
+fn lengths<const PLACES: usize>(step: impl Fn(usize) -> [u64; PLACES]) -> u64 {
     let (mut at, mut sum) = (0, 0);
     loop {
-        let [found, _, _, length, next] = step(at);
-        if found == 0 {
+        let places = step(at);
+        if places[0] == 0 {
             return sum;
         }
-        sum += length;
-        at = next as usize;
+        sum += places[3];
+        at = places[4] as usize;
     }
 }
 

@@ -10,7 +10,7 @@
 /* ---- What is said ---------------------------------------------------------------------------------------------------- */
 
 /* Says a record that a step found. */
-static void say_record(struct upload *u, const uint64_t out[5])
+static void say_record(struct upload *u, const uint64_t out[BRINE_RECORD_PLACES])
 {
     char label[33];
     for (size_t i = 0; i < 16; i++)
@@ -106,7 +106,7 @@ static bool make_room(struct upload *u, size_t needed)
 /* Says the records that have become certain, and gives brine_arrive's status. */
 static uint32_t follow_records(struct upload *u)
 {
-    uint64_t out[5];
+    uint64_t out[BRINE_RECORD_PLACES];
     do {
         uint32_t status = brine_arrive(u->bytes, u->arrived, u->limit, u->at, out);
         if (status != BRINE_DONE)
@@ -121,7 +121,7 @@ static uint32_t follow_records(struct upload *u)
 /* Says the frames that have become certain: of each record of the camera's own walk, the frame that it alone is. */
 static void follow_frames(struct upload *u, struct camera *c)
 {
-    uint64_t record[5], frame[8];
+    uint64_t record[BRINE_RECORD_PLACES], frame[BRINE_ELEMENT_PLACES];
     while (brine_arrive(u->bytes, u->arrived, u->limit, c->at, record) == BRINE_DONE) {
         c->at = record[4];
         if (record[0] == BRINE_NOTHING)
@@ -164,7 +164,7 @@ void upload_waits(const struct upload *u)
 
 void upload_finish(struct upload *u)
 {
-    uint64_t record[5], frame[8], frames = 0;
+    uint64_t record[BRINE_RECORD_PLACES], frame[BRINE_ELEMENT_PLACES], frames = 0;
     while (brine_step(u->bytes, u->arrived, u->arrived, u->at, record) == BRINE_DONE && record[0] == BRINE_FOUND) {
         u->at = record[4];
         say_record(u, record);

@@ -8,8 +8,8 @@ use crate::places::{KIND_F32, KIND_F64, KIND_WHOLE, VALUES};
 /// The library is for 64-bit machines: a place that it answers is a `usize`.
 const _: () = assert!(usize::BITS == 64);
 
-/// The places of a record that a step found, or that it found none: found, place, value's place, value's length, next cursor.
-pub type Stepped = [u64; 5];
+/// What a step wrote: found, place, value's place, value's length, next cursor, bytes of the length field, shortest or not.
+pub type Stepped = [u64; 7];
 /// What a step of a frame walk wrote: found, number, place, value's place, value's length, over-long, next cursor, next number.
 pub type Framed = [u64; 8];
 
@@ -61,9 +61,9 @@ fn answered<T>(status: u32, needed: u64, answer: T) -> Result<T, Refusal> {
     }
 }
 
-/// `brine_length`: found, number, bytes.
-pub fn length(s: &[u8], at: usize) -> [u64; 3] {
-    let mut out = [0; 3];
+/// `brine_length`: found, number, bytes, shortest or not.
+pub fn length(s: &[u8], at: usize) -> [u64; 4] {
+    let mut out = [0; 4];
     unsafe { brine_length(s.as_ptr(), s.len(), at, &mut out) };
     out
 }
@@ -80,14 +80,14 @@ pub fn next_key(s: &[u8], end: usize, from: usize) -> usize {
 
 /// `brine_step`.
 pub fn step(s: &[u8], end: usize, at: usize) -> Result<Stepped, Refusal> {
-    let mut out = [0; 5];
+    let mut out = [0; 7];
     let status = unsafe { brine_step(s.as_ptr(), s.len(), end, at, &mut out) };
     answered(status, 0, out)
 }
 
 /// `brine_arrive`.
 pub fn arrive(a: &[u8], limit: usize, at: usize) -> Result<Stepped, Refusal> {
-    let mut out = [0; 5];
+    let mut out = [0; 7];
     let status = unsafe { brine_arrive(a.as_ptr(), a.len(), limit, at, &mut out) };
     answered(status, 0, out)
 }
@@ -115,14 +115,14 @@ pub fn tally(s: &[u8], firsts: &mut [usize; 64], counts: &mut [usize; 64]) -> [u
 
 /// `brine_run`.
 pub fn run(s: &[u8], at: usize) -> Stepped {
-    let mut out = [0; 5];
+    let mut out = [0; 7];
     unsafe { brine_run(s.as_ptr(), s.len(), at, &mut out) };
     out
 }
 
 /// `brine_item`.
 pub fn item(s: &[u8], tag: usize, ber: bool, at: usize) -> Stepped {
-    let mut out = [0; 5];
+    let mut out = [0; 7];
     unsafe { brine_item(s.as_ptr(), s.len(), tag, ber, at, &mut out) };
     out
 }

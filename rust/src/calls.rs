@@ -1,11 +1,11 @@
 // The library's calls, as include/brinethimble.h declares them; `library/declarations` compares the two with Rattle's own.
 #[rustfmt::skip]
 unsafe extern "C" {
-    fn brine_length(s: *const u8, s_len: usize, at: usize, out: &mut [u64; 3]) -> u32;
+    fn brine_length(s: *const u8, s_len: usize, at: usize, out: &mut [u64; 4]) -> u32;
     fn brine_same_label(a: *const u8, a_len: usize, b: *const u8, b_len: usize) -> bool;
     fn brine_next_key(s: *const u8, s_len: usize, end: usize, from: usize) -> usize;
-    fn brine_step(s: *const u8, s_len: usize, end: usize, at: usize, out: &mut [u64; 5]) -> u32;
-    fn brine_arrive(a: *const u8, a_len: usize, limit: usize, at: usize, out: &mut [u64; 5]) -> u32;
+    fn brine_step(s: *const u8, s_len: usize, end: usize, at: usize, out: &mut [u64; 7]) -> u32;
+    fn brine_arrive(a: *const u8, a_len: usize, limit: usize, at: usize, out: &mut [u64; 7]) -> u32;
     fn brine_records(
         s: *const u8, s_len: usize, end: usize, at: usize, records: *mut u64, records_len: usize, out: &mut [u64; 2],
     ) -> u32;
@@ -13,8 +13,8 @@ unsafe extern "C" {
         a: *const u8, a_len: usize, limit: usize, at: usize, records: *mut u64, records_len: usize, out: &mut [u64; 2],
     ) -> u32;
     fn brine_tally(s: *const u8, s_len: usize, firsts: &mut [usize; 64], counts: &mut [usize; 64], out: &mut [u64; 2]) -> u32;
-    fn brine_run(s: *const u8, s_len: usize, at: usize, out: &mut [u64; 5]) -> u32;
-    fn brine_item(s: *const u8, s_len: usize, tag: usize, ber: bool, at: usize, out: &mut [u64; 5]) -> u32;
+    fn brine_run(s: *const u8, s_len: usize, at: usize, out: &mut [u64; 7]) -> u32;
+    fn brine_item(s: *const u8, s_len: usize, tag: usize, ber: bool, at: usize, out: &mut [u64; 7]) -> u32;
     fn brine_header(s: *const u8, s_len: usize, out: &mut [u64; 3]) -> u32;
     fn brine_primer(s: *const u8, s_len: usize, tag: u64, out: &mut [u64; 2]) -> u32;
     fn brine_arri_block(element: *const u8, element_len: usize, out: &mut [u64; 2]) -> u32;

@@ -77,6 +77,10 @@ pub struct Item<'a> {
     pub value_place: usize,
     /// Its value.
     pub value: &'a [u8],
+    /// How many bytes its length has: 1 to 9 where it is BER, else 2.
+    pub length_bytes: usize,
+    /// Whether that is the shortest form of its length, as in [`crate::Length::Is`]. A length of two bytes has no other.
+    pub shortest: bool,
 }
 
 /// The items of a set.
@@ -104,13 +108,16 @@ impl<'a> Iterator for Items<'a> {
     type Item = Item<'a>;
 
     fn next(&mut self) -> Option<Item<'a>> {
-        let [found, place, value, length, next] = boundary::item(self.set, self.coding.tag, self.coding.ber, self.at);
+        let stepped = boundary::item(self.set, self.coding.tag, self.coding.ber, self.at);
+        let [found, place, value, length, next, bytes, shortest] = stepped;
         self.at = next as usize;
         (found == 1).then(|| Item {
             place: place as usize,
             tag: part(self.set, place, self.coding.tag as u64),
             value_place: value as usize,
             value: part(self.set, value, length),
+            length_bytes: bytes as usize,
+            shortest: shortest == 1,
         })
     }
 }
@@ -125,6 +132,15 @@ mod tests {
         for coding in [Coding::TWO, Coding::BER, Coding::ONE, Coding { tag: 0, ber: false }] {
             assert_eq!(local_items(&[], coding).count(), 0);
         }
+    }
+
+    #[test]
+    fn items_and_records_of_runs_tell_of_their_length_fields() {
+        let forms = |set: &[u8], coding| local_items(set, coding).map(|item| (item.length_bytes, item.shortest)).collect::<Vec<_>>();
+        assert_eq!(forms(b"\x15\x01\x81\x02ab\x15\x02\x01c\x15\x03\x80", Coding::BER), [(2, false), (1, true), (1, false)]);
+        assert_eq!(forms(b"\x88\x00\x02ab\x89\x00\x00", Coding::ONE), [(2, true), (2, true)]);
+        let run = [&[7; 16][..], &[0x80], &[8; 16], &[0]].concat();
+        assert_eq!(klvs(&run).map(|record| (record.length_bytes, record.shortest)).collect::<Vec<_>>(), [(1, false), (1, true)]);
     }
 
     #[test]

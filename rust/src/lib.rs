@@ -13,6 +13,7 @@
 //! assert_eq!(records[0].value, [0xaa, 0xbb]);
 //! assert_eq!((records[1].place, records[1].label, records[1].value_place), (20, &other, 38));
 //! assert_eq!(records[1].value, []);
+//! assert_eq!((records[1].length_bytes, records[1].shortest), (2, false));
 //! assert_eq!(records.len(), 2);
 //! ```
 //!
@@ -45,4 +46,4 @@ pub use items::{Coding, Item, Items, Klvs, klvs, local_items};
 pub use record::{Length, Record, Refusal, next_key, read_ber, same_label};
 pub use tables::{Area, Descriptor, Lines, Primer, dynamic_metadata, header_partition_metadata, lines, payload_into};
 pub use values::{Distance, Encoders, FrameValues, TStop, of_alexa35, of_dynamic, values_of};
-pub use walk::{Arriving, Filled, Records, Tally, next_klv, records_into, tally};
+pub use walk::{Arriving, Filled, Listed, Records, Tally, next_klv, records_into, tally};

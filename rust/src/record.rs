@@ -5,7 +5,7 @@
 //! ```
 //! use brinethimble::{Length, next_key, read_ber, same_label};
 //!
-//! assert_eq!(read_ber(&[0x82, 1, 0], 0), Length::Is { number: 256, bytes: 3 });
+//! assert_eq!(read_ber(&[0x82, 1, 0], 0), Length::Is { number: 256, bytes: 3, shortest: true });
 //!
 //! let label = *b"\x06\x0e\x2b\x34\x01\x01\x01\x0d\x0e\x15\x00\x01\x00\x01\x00\x00";
 //! let mut other = label;
@@ -73,6 +73,8 @@ pub enum Length {
         number: u64,
         /// How many bytes it took, 1 to 9.
         bytes: usize,
+        /// Whether no shorter form would have held it. `80` is not the shortest form of 0: `00` is.
+        shortest: bool,
     },
     /// Bytes of the length are missing.
     Cut,
@@ -91,18 +93,36 @@ pub struct Record<'a> {
     pub value_place: usize,
     /// Its value.
     pub value: &'a [u8],
+    /// How many bytes its length field has, 1 to 9.
+    pub length_bytes: usize,
+    /// Whether that is the shortest form of its length, as in [`Length::Is`].
+    pub shortest: bool,
 }
 
 impl<'a> Record<'a> {
-    /// The record at a place, with its value's place and length.
-    pub(crate) fn at(s: &'a [u8], [place, value, length]: [u64; 3]) -> Self {
+    /// The record at a place, with its value's place and length, the bytes of its length field, and shortest or not.
+    fn new(s: &'a [u8], [place, value, length, bytes, shortest]: [u64; 5]) -> Self {
         let label = part(s, place, 16).try_into().expect("16 bytes of label");
-        Record { place: place as usize, label, value_place: value as usize, value: part(s, value, length) }
+        Record {
+            place: place as usize,
+            label,
+            value_place: value as usize,
+            value: part(s, value, length),
+            length_bytes: bytes as usize,
+            shortest: shortest == 1,
+        }
+    }
+
+    /// The record at a place, with its value's place and length, from a call that says no more: its length field is read again.
+    pub(crate) fn at(s: &'a [u8], [place, value, length]: [u64; 3]) -> Self {
+        let [_, _, bytes, shortest] = boundary::length(s, place as usize + 16);
+        Record::new(s, [place, value, length, bytes, shortest])
     }
 
     /// The record that a step found, if it did, and the next cursor.
-    pub(crate) fn stepped(s: &'a [u8], [found, place, value, length, next]: boundary::Stepped) -> (Option<Self>, usize) {
-        ((found == 1).then(|| Record::at(s, [place, value, length])), next as usize)
+    pub(crate) fn stepped(s: &'a [u8], stepped: boundary::Stepped) -> (Option<Self>, usize) {
+        let [found, place, value, length, next, bytes, shortest] = stepped;
+        ((found == 1).then(|| Record::new(s, [place, value, length, bytes, shortest])), next as usize)
     }
 }
 
@@ -117,16 +137,17 @@ pub(crate) fn part(s: &[u8], place: u64, length: u64) -> &[u8] {
 /// ```
 /// use brinethimble::{Length, read_ber};
 ///
-/// assert_eq!(read_ber(&[0x7f], 0), Length::Is { number: 127, bytes: 1 });
-/// assert_eq!(read_ber(&[0x80], 0), Length::Is { number: 0, bytes: 1 });
-/// assert_eq!(read_ber(&[0x81, 0], 0), Length::Is { number: 0, bytes: 2 });
-/// assert_eq!(read_ber(b"\x88\xff\xff\xff\xff\xff\xff\xff\xff", 0), Length::Is { number: u64::MAX, bytes: 9 });
+/// assert_eq!(read_ber(&[0x7f], 0), Length::Is { number: 127, bytes: 1, shortest: true });
+/// assert_eq!(read_ber(&[0x80], 0), Length::Is { number: 0, bytes: 1, shortest: false });
+/// assert_eq!(read_ber(&[0x81, 0], 0), Length::Is { number: 0, bytes: 2, shortest: false });
+/// let most = Length::Is { number: u64::MAX, bytes: 9, shortest: true };
+/// assert_eq!(read_ber(b"\x88\xff\xff\xff\xff\xff\xff\xff\xff", 0), most);
 /// assert_eq!(read_ber(&[0x89], 0), Length::None);
 /// assert_eq!(read_ber(&[0x81], 0), Length::Cut);
 /// ```
 pub fn read_ber(s: &[u8], at: usize) -> Length {
     match boundary::length(s, at) {
-        [1, number, bytes] => Length::Is { number, bytes: bytes as usize },
+        [1, number, bytes, shortest] => Length::Is { number, bytes: bytes as usize, shortest: shortest == 1 },
         [2, ..] => Length::Cut,
         _ => Length::None,
     }
@@ -168,6 +189,26 @@ mod tests {
         assert_eq!(read_ber(&[0x7f], 1), Length::Cut);
         assert_eq!(read_ber(&[0x7f], usize::MAX), Length::Cut);
         assert_eq!(read_ber(&[0x88, 1, 2, 3, 4, 5, 6, 7], 0), Length::Cut);
+    }
+
+    #[test]
+    fn a_length_is_shortest_where_no_shorter_form_holds_it() {
+        let forms: [(&[u8], usize, bool); 10] = [
+            (&[0], 1, true),
+            (&[0x7f], 1, true),
+            (&[0x80], 1, false),
+            (&[0x81, 0x7f], 2, false),
+            (&[0x81, 0x80], 2, true),
+            (&[0x82, 0, 0xff], 3, false),
+            (&[0x82, 1, 0], 3, true),
+            (b"\x87\xff\xff\xff\xff\xff\xff\xff", 8, true),
+            (b"\x88\x00\xff\xff\xff\xff\xff\xff\xff", 9, false),
+            (b"\x88\x01\x00\x00\x00\x00\x00\x00\x00", 9, true),
+        ];
+        for (bytes, size, least) in forms {
+            let is = matches!(read_ber(bytes, 0), Length::Is { bytes, shortest, .. } if (bytes, shortest) == (size, least));
+            assert!(is, "{bytes:x?}");
+        }
     }
 
     #[test]

@@ -228,7 +228,7 @@ mod tests {
 
     #[test]
     fn a_frame_with_places_past_the_buffer_has_no_values() {
-        let element = Record { place: usize::MAX, label: &[0; 16], value_place: usize::MAX, value: &[] };
+        let element = Record { place: usize::MAX, label: &[0; 16], value_place: usize::MAX, value: &[], length_bytes: 0, shortest: false };
         for overlong in [false, true] {
             assert_eq!(values_of(&[], &Frame { number: 0, element, overlong }), None);
         }

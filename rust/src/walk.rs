@@ -172,24 +172,27 @@ impl Arriving {
         Ok(std::iter::from_fn(move || self.next_klv(a).ok()?))
     }
 
-    /// Fills lent room with the next certain records, each its place, its value's place and its value's length, and moves on
-    /// behind them. The walk waits if there was room for more.
+    /// Fills lent room with the next certain records and moves on behind them. The walk waits if there was room for more.
     ///
     /// ```
     /// let label = *b"\x06\x0e\x2b\x34\x01\x01\x01\x0d\x0e\x15\x00\x01\x00\x01\x00\x00";
     /// let file = [&label[..], &[1, 7], &label, &[0]].concat();
     /// let mut upload = brinethimble::Arriving::new(1000);
-    /// let mut room = [[0; 3]; 8];
+    /// let mut room = [[0; 5]; 8];
     /// assert_eq!(upload.feed_into(&file, &mut room)?, 2);
-    /// assert_eq!(room[..2], [[0, 17, 1], [18, 35, 0]]);
+    /// assert_eq!(room[..2], [[0, 17, 1, 1, 1], [18, 35, 0, 1, 1]]);
     /// # Ok::<(), brinethimble::Refusal>(())
     /// ```
-    pub fn feed_into(&mut self, a: &[u8], room: &mut [[u64; 3]]) -> Result<usize, Refusal> {
+    pub fn feed_into(&mut self, a: &[u8], room: &mut [Listed]) -> Result<usize, Refusal> {
         let [records, next] = boundary::arrivals(a, self.limit, self.at, room.as_flattened_mut())?;
         self.at = next as usize;
         Ok(records as usize)
     }
 }
+
+/// A record in lent room: its place, its value's place, its value's length, the bytes of its length field, and 1 where that is
+/// the shortest form, else 0.
+pub type Listed = [u64; 5];
 
 /// What [`records_into`] has put.
 #[derive(Clone, Copy, PartialEq, Eq, Debug)]
@@ -200,22 +203,21 @@ pub struct Filled {
     pub next: usize,
 }
 
-/// Fills lent room with records of the finished walk from a cursor, each its place, its value's place and its value's length.
-/// The walk is over if there was room for more.
+/// Fills lent room with records of the finished walk from a cursor. The walk is over if there was room for more.
 ///
 /// ```
 /// use brinethimble::{Filled, records_into};
 ///
 /// let label = *b"\x06\x0e\x2b\x34\x01\x01\x01\x0d\x0e\x15\x00\x01\x00\x01\x00\x00";
 /// let file = [&label[..], &[1, 7], &label, &[0]].concat();
-/// let mut room = [[0; 3]];
+/// let mut room = [[0; 5]];
 /// assert_eq!(records_into(&file, 35, 0, &mut room)?, Filled { records: 1, next: 18 });
-/// assert_eq!(room, [[0, 17, 1]]);
+/// assert_eq!(room, [[0, 17, 1, 1, 1]]);
 /// assert_eq!(records_into(&file, 35, 18, &mut room)?, Filled { records: 1, next: 35 });
 /// assert_eq!(records_into(&file, 35, 35, &mut room)?, Filled { records: 0, next: 35 });
 /// # Ok::<(), brinethimble::Refusal>(())
 /// ```
-pub fn records_into(s: &[u8], end: usize, at: usize, room: &mut [[u64; 3]]) -> Result<Filled, Refusal> {
+pub fn records_into(s: &[u8], end: usize, at: usize, room: &mut [Listed]) -> Result<Filled, Refusal> {
     let [records, next] = boundary::records(s, end, at, room.as_flattened_mut())?;
     Ok(Filled { records: records as usize, next: next as usize })
 }
@@ -300,11 +302,11 @@ mod tests {
         let file = record(1, &[0], &[]);
         assert_eq!(next_klv(&file, 18, 0), Err(Refusal::EndPastBuffer));
         assert_eq!(Records::before(&file, usize::MAX).unwrap_err(), Refusal::EndPastBuffer);
-        assert_eq!(records_into(&file, 18, 0, &mut [[7; 3]]), Err(Refusal::EndPastBuffer));
+        assert_eq!(records_into(&file, 18, 0, &mut [[7; 5]]), Err(Refusal::EndPastBuffer));
         let mut upload = Arriving::new(16);
         assert_eq!(upload.next_klv(&file), Err(Refusal::PastLimit));
         assert!(upload.feed(&file).is_err_and(|refusal| refusal == Refusal::PastLimit));
-        assert_eq!(upload.feed_into(&file, &mut [[7; 3]]), Err(Refusal::PastLimit));
+        assert_eq!(upload.feed_into(&file, &mut [[7; 5]]), Err(Refusal::PastLimit));
         assert_eq!(upload.cursor(), 0);
     }
 
@@ -330,9 +332,9 @@ mod tests {
 
     #[test]
     fn room_past_the_last_record_keeps_its_contents() {
-        let mut room = [[7; 3]; 2];
+        let mut room = [[7; 5]; 2];
         assert_eq!(records_into(&record(1, &[0], &[]), 17, 0, &mut room), Ok(Filled { records: 1, next: 17 }));
-        assert_eq!(room, [[0, 17, 0], [7; 3]]);
+        assert_eq!(room, [[0, 17, 0, 1, 1], [7; 5]]);
     }
 
     #[test]

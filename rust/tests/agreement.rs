@@ -44,16 +44,16 @@ fn on_buffers(holds: impl Fn(&[u8], usize)) {
     }
 }
 
-/// A record's three places.
-fn places(record: Record) -> [u64; 3] {
-    [record.place, record.value_place, record.value.len()].map(|place| place as u64)
+/// A record as lent room has it.
+fn places(record: Record) -> Listed {
+    [record.place, record.value_place, record.value.len(), record.length_bytes, record.shortest.into()].map(|place| place as u64)
 }
 
 #[test]
 fn batches_and_steps_give_the_same_records() {
     on_buffers(|s, room| {
         let mut batches = Vec::new();
-        let mut lent = vec![[0; 3]; 1 + room % 4];
+        let mut lent = vec![[0; 5]; 1 + room % 4];
         let mut at = 0;
         loop {
             let filled = records_into(s, s.len(), at, &mut lent).unwrap();
@@ -93,7 +93,7 @@ fn what_has_arrived_begins_the_finished_list() {
             arrived.extend(upload.feed(&s[..count]).unwrap().map(places));
         }
         assert!(finished.starts_with(&arrived));
-        let mut room = vec![[0; 3]; finished.len() + 1];
+        let mut room = vec![[0; 5]; finished.len() + 1];
         let mut again = Arriving::new(limit);
         assert_eq!(again.feed_into(s, &mut room), Ok(arrived.len()));
         assert_eq!((&room[..arrived.len()], again.cursor()), (&arrived[..], upload.cursor()));

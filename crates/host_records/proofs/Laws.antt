@@ -7,17 +7,20 @@ use native.Mathlib.Omega.{arith}
 use lib.ListN.{length, set, length-set}
 use Rattle.steps.specs.Told.{Told, found, nothing, refused, number}
 use Rattle.steps.specs.Listed.{before, atMost, onward, endAtMost}
+use Rattle.host_numbers.specs.Numbers.{mark}
 use Rattle.klv.specs.declared.Klv.{Klv}
 use Rattle.klv.specs.Item.{Item}
 use Rattle.host_records.specs.declared.Batch.{Batch}
-use Rattle.host_records.specs.Batch.{recordPut, recordsPut, batch, batchOf, batchInto, batchSaid, batchPlaces}
+use Rattle.host_records.specs.Batch.{placesEach, recordPut, recordsPut, batch, batchOf, batchInto, batchSaid, batchPlaces}
 
--- a record's three places leave the room as long as it was
+-- a record's places leave the room as long as it was
 pub length-put : (k : Klv) (at : ℕ) (lent : List ℕ) → length (recordPut k at lent) ≡ length lent
 length-put k at lent =
     let a = set lent at (k .at) in
     let b = set a (at + 1) (k .value) in
-    length-set b (at + 2) (k .len) ∙ length-set a (at + 1) (k .value) ∙ length-set lent at (k .at)
+    let c = set b (at + 2) (k .len) in
+    let d = set c (at + 3) (k .size) in
+    length-set d (at + 4) (mark (k .shortest)) ∙ length-set c (at + 3) (k .size) ∙ length-set b (at + 2) (k .len) ∙ length-set a (at + 1) (k .value) ∙ length-set lent at (k .at)
 
 module _ (step : ℕ → Told Item) where
   -- one step more
@@ -40,42 +43,42 @@ module _ (step : ℕ → Told Item) where
 
   -- `count` records were put, there is room for `left` more, and the next step starts at p
   pub record Going (lent₀ : List ℕ) (p₀ : ℕ) (lent : List ℕ) (left count p : ℕ) : Type 0 where
-    pub put : recordsPut (atMost step left p) (3 * count) lent ≡ recordsPut (batch step lent₀ p₀) 0 lent₀
+    pub put : recordsPut (atMost step left p) (placesEach * count) lent ≡ recordsPut (batch step lent₀ p₀) 0 lent₀
     pub counted : count + length (atMost step left p) ≡ length (batch step lent₀ p₀)
-    pub ends : endAtMost step left p ≡ endAtMost step (length lent₀ / 3) p₀
+    pub ends : endAtMost step left p ≡ endAtMost step (length lent₀ / placesEach) p₀
     pub same : length lent ≡ length lent₀
-    pub room : count + left ≡ length lent₀ / 3
+    pub room : count + left ≡ length lent₀ / placesEach
 
   -- the answer, and the room after it
   abbrev pub Put : List ℕ → ℕ → List ℕ → Batch → Type 0
-  Put lent₀ p₀ lent b = (b ≡ batchOf step (length lent₀ / 3) p₀) × (lent ≡ recordsPut (batch step lent₀ p₀) 0 lent₀)
+  Put lent₀ p₀ lent b = (b ≡ batchOf step (length lent₀ / placesEach) p₀) × (lent ≡ recordsPut (batch step lent₀ p₀) 0 lent₀)
 
   module _ (lent₀ : List ℕ) (p₀ : ℕ) where
     -- an answer by its count and its next cursor
-    batch-is : {count next : ℕ} → count ≡ length (batch step lent₀ p₀) → next ≡ endAtMost step (length lent₀ / 3) p₀ → _≡_ {A = Batch} (record { count = count; next = next }) (batchOf step (length lent₀ / 3) p₀)
+    batch-is : {count next : ℕ} → count ≡ length (batch step lent₀ p₀) → next ≡ endAtMost step (length lent₀ / placesEach) p₀ → _≡_ {A = Batch} (record { count = count; next = next }) (batchOf step (length lent₀ / placesEach) p₀)
     unfolding batch
     batch-is c n = λ i. record { count = c i; next = n i }
 
-    pub going-start : Going lent₀ p₀ lent₀ (length lent₀ / 3) 0 p₀
+    pub going-start : Going lent₀ p₀ lent₀ (length lent₀ / placesEach) 0 p₀
     unfolding batch
     going-start = record { put = refl; counted = omega arith; ends = refl; same = refl; room = omega arith }
 
     module _ (lent : List ℕ) (count p : ℕ) where
       -- one more record has room
-      pub going-fits : (left : ℕ) → Going lent₀ p₀ lent left count p → 0 < left → 3 * count + 2 < length lent
+      pub going-fits : (left : ℕ) → Going lent₀ p₀ lent left count p → 0 < left → placesEach * count + 4 < length lent
       going-fits left g h = omega (arith, g .same, g .room)
 
-      pub going-next : (i : Item) (q left : ℕ) → Going lent₀ p₀ lent left count p → 0 < left → found i q ≡ step p → Going lent₀ p₀ (recordPut (i .klv) (3 * count) lent) (left - 1) (count + 1) q
+      pub going-next : (i : Item) (q left : ℕ) → Going lent₀ p₀ lent left count p → 0 < left → found i q ≡ step p → Going lent₀ p₀ (recordPut (i .klv) (placesEach * count) lent) (left - 1) (count + 1) q
       unfolding recordsPut
       going-next i q zero g h f = absurd (omega arith)
       going-next i q (suc n) g h f =
           let less : suc n - 1 ≡ n = omega arith in
-          let three : 3 * (count + 1) ≡ 3 * count + 3 = omega arith in
+          let more : placesEach * (count + 1) ≡ placesEach * count + placesEach = omega arith in
           record {
-            put = rw (less, three) (rw (list-found n p q i f) at (g .put));
+            put = rw (less, more) (rw (list-found n p q i f) at (g .put));
             counted = rw less (omega (arith, rw (list-found n p q i f) at (g .counted)));
             ends = rw less (sym (end-found n p q i f) ∙ g .ends);
-            same = length-put (i .klv) (3 * count) lent ∙ g .same;
+            same = length-put (i .klv) (placesEach * count) lent ∙ g .same;
             room = omega (arith, g .room);
           }
 
@@ -85,7 +88,7 @@ module _ (step : ℕ → Told Item) where
       going-nothing q zero g h f = absurd (omega arith)
       going-nothing q (suc n) g h f =
           let all : count ≡ length (batch step lent₀ p₀) = omega (arith, rw (list-nothing n p q f) at (g .counted)) in
-          let ends : q ≡ endAtMost step (length lent₀ / 3) p₀ = sym (end-nothing n p q f) ∙ g .ends in
+          let ends : q ≡ endAtMost step (length lent₀ / placesEach) p₀ = sym (end-nothing n p q f) ∙ g .ends in
           (batch-is all ends, rw (list-nothing n p q f) at (g .put))
 
       -- there is no room for more
@@ -99,7 +102,7 @@ module _ (step : ℕ → Told Item) where
   module _ (lent out : List ℕ) (p : ℕ) where
     -- the status, the lent room and the places after a call
     abbrev pub Answered : ℕ → List ℕ → List ℕ → Type 0
-    Answered status lent′ out′ = (status ≡ number (step p)) × ((lent′ ≡ batchInto step p lent (step p)) × (out′ ≡ batchPlaces step (length lent / 3) p out (step p)))
+    Answered status lent′ out′ = (status ≡ number (step p)) × ((lent′ ≡ batchInto step p lent (step p)) × (out′ ≡ batchPlaces step (length lent / placesEach) p out (step p)))
 
     pub answered-refused : (n q : ℕ) → step p ≡ refused n q → Answered n lent out
     unfolding number batchInto batchPlaces

@@ -6,7 +6,8 @@ ghost use lib.ListN.{length};
 ghost use Rattle.steps.specs.Told.{number};
 ghost use Rattle.walk.specs.Walk.{finishedStep, arrivingStep};
 ghost use Rattle.tally.specs.Groups.{groupsOf, answerOf, front};
-ghost use Rattle.host_records.specs.Batch.{recordPut, recordsPut, batch, batchOf, batchInto, batchPlaces, tallyPlaces};
+ghost use Rattle.host_records.specs.Batch.{placesEach, recordPut, recordsPut, batch, batchOf, batchInto, batchPlaces, tallyPlaces};
+use host_numbers::mark;
 use klv::Klv;
 use walk::Arrived;
 use walk::Cursor;
@@ -18,25 +19,33 @@ pub struct Batch {
     pub next: usize,
 }
 
-// Puts a record's three places.
+// How many places a record takes.
+const PLACES_EACH: usize = 5;
+
+// Puts a record's places.
 fn put_record(records: &mut [u64], at: usize, k: Klv)
     requires { ⌜ at < length (now records) ⌝ }
     requires { ⌜ at + 1 < length (now records) ⌝ }
     requires { ⌜ at + 2 < length (now records) ⌝ }
+    requires { ⌜ at + 3 < length (now records) ⌝ }
+    requires { ⌜ at + 4 < length (now records) ⌝ }
     ensures { λ r. ⌜ now (records .exit) ≡ recordPut k at (now (records .entry)) ⌝ }
 {
+    let shortest = mark(k.shortest);
     records[at] = k.at as u64;
     records[at + 1] = k.value as u64;
     records[at + 2] = k.len as u64;
+    records[at + 3] = k.size as u64;
+    records[at + 4] = shortest;
 }
 
 // Puts the records of the finished walk from a place on, as many as there is room for.
 fn put_finished(s: &[u8], end: usize, at: usize, records: &mut [u64]) -> Batch
     requires { ⌜ end ≤ length (now s) ⌝ }
-    ensures { λ r. ⌜ r ≡ batchOf (finishedStep (now (s .entry)) end) (length (now (records .entry)) / 3) at ⌝ }
+    ensures { λ r. ⌜ r ≡ batchOf (finishedStep (now (s .entry)) end) (length (now (records .entry)) / placesEach) at ⌝ }
     ensures { λ r. ⌜ now (records .exit) ≡ recordsPut (batch (finishedStep (now (s .entry)) end) (now (records .entry)) at) 0 (now (records .entry)) ⌝ }
 {
-    let mut left = records.len() / 3;
+    let mut left = records.len() / PLACES_EACH;
     let mut count = 0;
     let mut next = at;
     while 0 < left {
@@ -45,7 +54,7 @@ fn put_finished(s: &[u8], end: usize, at: usize, records: &mut [u64]) -> Batch
             Step::Over(c) => return Batch { count, next: c.at },
             Step::Refused => return Batch { count, next },
             Step::Record(k, c) => {
-                put_record(records, 3 * count, k);
+                put_record(records, PLACES_EACH * count, k);
                 left -= 1;
                 count += 1;
                 next = c.at;
@@ -58,10 +67,10 @@ fn put_finished(s: &[u8], end: usize, at: usize, records: &mut [u64]) -> Batch
 // Puts the records of the arriving walk from a place on, as many as there is room for.
 fn put_arriving(a: &[u8], limit: usize, at: usize, records: &mut [u64]) -> Batch
     requires { ⌜ length (now a) ≤ limit ⌝ }
-    ensures { λ r. ⌜ r ≡ batchOf (arrivingStep limit (now (a .entry))) (length (now (records .entry)) / 3) at ⌝ }
+    ensures { λ r. ⌜ r ≡ batchOf (arrivingStep limit (now (a .entry))) (length (now (records .entry)) / placesEach) at ⌝ }
     ensures { λ r. ⌜ now (records .exit) ≡ recordsPut (batch (arrivingStep limit (now (a .entry))) (now (records .entry)) at) 0 (now (records .entry)) ⌝ }
 {
-    let mut left = records.len() / 3;
+    let mut left = records.len() / PLACES_EACH;
     let mut count = 0;
     let mut next = at;
     while 0 < left {
@@ -70,7 +79,7 @@ fn put_arriving(a: &[u8], limit: usize, at: usize, records: &mut [u64]) -> Batch
             Arrived::Waits(c) => return Batch { count, next: c.at },
             Arrived::Refused => return Batch { count, next },
             Arrived::Record(k, c) => {
-                put_record(records, 3 * count, k);
+                put_record(records, PLACES_EACH * count, k);
                 left -= 1;
                 count += 1;
                 next = c.at;
@@ -91,7 +100,7 @@ pub extern "C" fn brine_records(
 ) -> u32
     ensures { λ r. ⌜ r ≡ number (finishedStep (now (s .entry)) end at) ⌝ }
     ensures { λ r. ⌜ now (records .exit) ≡ batchInto (finishedStep (now (s .entry)) end) at (now (records .entry)) (finishedStep (now (s .entry)) end at) ⌝ }
-    ensures { λ r. ⌜ now (out .exit) ≡ batchPlaces (finishedStep (now (s .entry)) end) (length (now (records .entry)) / 3) at (now (out .entry)) (finishedStep (now (s .entry)) end at) ⌝ }
+    ensures { λ r. ⌜ now (out .exit) ≡ batchPlaces (finishedStep (now (s .entry)) end) (length (now (records .entry)) / placesEach) at (now (out .entry)) (finishedStep (now (s .entry)) end at) ⌝ }
 {
     if s.len() < end {
         return 1;
@@ -112,7 +121,7 @@ pub extern "C" fn brine_arrivals(
 ) -> u32
     ensures { λ r. ⌜ r ≡ number (arrivingStep limit (now (a .entry)) at) ⌝ }
     ensures { λ r. ⌜ now (records .exit) ≡ batchInto (arrivingStep limit (now (a .entry))) at (now (records .entry)) (arrivingStep limit (now (a .entry)) at) ⌝ }
-    ensures { λ r. ⌜ now (out .exit) ≡ batchPlaces (arrivingStep limit (now (a .entry))) (length (now (records .entry)) / 3) at (now (out .entry)) (arrivingStep limit (now (a .entry)) at) ⌝ }
+    ensures { λ r. ⌜ now (out .exit) ≡ batchPlaces (arrivingStep limit (now (a .entry))) (length (now (records .entry)) / placesEach) at (now (out .entry)) (arrivingStep limit (now (a .entry)) at) ⌝ }
 {
     if limit < a.len() {
         return 2;

@@ -39,7 +39,7 @@ pub extern "C" fn brine_of_alexa35(
     0
 }
 
-// The frame that four places of a step speak of. Values ask nothing of its number.
+// The frame that four places of a step speak of. Values ask nothing of its number and its length field.
 fn frame_of(frame: &[u64; 4]) -> frame_walks::FrameElement
     ensures { λ r. ⌜ r ≡ frameOf (now (frame .entry)) ⌝ }
 {
@@ -51,6 +51,8 @@ fn frame_of(frame: &[u64; 4]) -> frame_walks::FrameElement
         at: at as usize,
         value: value as usize,
         len: len as usize,
+        size: 0,
+        shortest: false,
     };
     let overlong = 0 < mark;
     frame_walks::FrameElement {

@@ -6,28 +6,49 @@ ghost use Rattle.labels.specs.Label.{sameLabel};
 ghost use Rattle.search.specs.Search.{nextKey};
 ghost use Rattle.items.specs.Items.{itemStep, runStep};
 ghost use Rattle.walk.specs.Walk.{finishedStep, arrivingStep};
-ghost use Rattle.host_walk.specs.Places.{itemPlaces, lengthPlaces};
+ghost use Rattle.host_walk.specs.Places.{klvPlaces, itemPlaces, lengthPlaces};
+use host_numbers::mark;
 use items::Coding;
 use items::Local;
 use items::LocalNext;
 use items::Run;
 use items::RunNext;
+use klv::Klv;
 use lengths::Length;
 use walk::Arrived;
 use walk::Cursor;
 use walk::Step;
 
+// Puts what a step found: a KLV, and the next cursor.
+fn put(k: Klv, next: usize, out: &mut [u64; 7])
+    ensures { λ r. ⌜ now (out .exit) ≡ klvPlaces k next ⌝ }
+{
+    let shortest = mark(k.shortest);
+    *out = [
+        1,
+        k.at as u64,
+        k.value as u64,
+        k.len as u64,
+        next as u64,
+        k.size as u64,
+        shortest,
+    ];
+}
+
 // The BER length at a place.
 #[no_mangle]
-pub extern "C" fn brine_length(s: &[u8], at: usize, out: &mut [u64; 3]) -> u32
+pub extern "C" fn brine_length(s: &[u8], at: usize, out: &mut [u64; 4]) -> u32
     ensures { λ r. ⌜ r ≡ 0 ⌝ }
     ensures { λ r. ⌜ now (out .exit) ≡ lengthPlaces (lengthAt (now (s .entry)) at) ⌝ }
 {
     let l = lengths::read(s, at);
     match l {
-        Length::Is(f) => *out = [1, f.value, f.size as u64],
-        Length::Cut => *out = [2, 0, 0],
-        Length::None => *out = [0, 0, 0],
+        Length::Is(f) => {
+            let shortest = mark(f.shortest);
+            *out = [1, f.value, f.size as u64, shortest];
+        }
+        Length::Cut => *out = [2, 0, 0, 0],
+        Length::None => *out = [0, 0, 0, 0],
     }
     0
 }
@@ -50,18 +71,18 @@ pub extern "C" fn brine_next_key(s: &[u8], end: usize, from: usize) -> usize
 
 // A step of the finished walk.
 #[no_mangle]
-pub extern "C" fn brine_step(s: &[u8], end: usize, at: usize, out: &mut [u64; 5]) -> u32
+pub extern "C" fn brine_step(s: &[u8], end: usize, at: usize, out: &mut [u64; 7]) -> u32
     ensures { λ r. ⌜ r ≡ number (finishedStep (now (s .entry)) end at) ⌝ }
     ensures { λ r. ⌜ now (out .exit) ≡ itemPlaces (finishedStep (now (s .entry)) end at) (now (out .entry)) ⌝ }
 {
     let t = Cursor { at }.step(s, end);
     match t {
         Step::Record(k, next) => {
-            *out = [1, k.at as u64, k.value as u64, k.len as u64, next.at as u64];
+            put(k, next.at, out);
             0
         }
         Step::Over(next) => {
-            *out = [0, 0, 0, 0, next.at as u64];
+            *out = [0, 0, 0, 0, next.at as u64, 0, 0];
             0
         }
         Step::Refused => 1,
@@ -70,18 +91,18 @@ pub extern "C" fn brine_step(s: &[u8], end: usize, at: usize, out: &mut [u64; 5]
 
 // A step of the arriving walk.
 #[no_mangle]
-pub extern "C" fn brine_arrive(a: &[u8], limit: usize, at: usize, out: &mut [u64; 5]) -> u32
+pub extern "C" fn brine_arrive(a: &[u8], limit: usize, at: usize, out: &mut [u64; 7]) -> u32
     ensures { λ r. ⌜ r ≡ number (arrivingStep limit (now (a .entry)) at) ⌝ }
     ensures { λ r. ⌜ now (out .exit) ≡ itemPlaces (arrivingStep limit (now (a .entry)) at) (now (out .entry)) ⌝ }
 {
     let t = Cursor { at }.arrive(a, limit);
     match t {
         Arrived::Record(k, next) => {
-            *out = [1, k.at as u64, k.value as u64, k.len as u64, next.at as u64];
+            put(k, next.at, out);
             0
         }
         Arrived::Waits(next) => {
-            *out = [0, 0, 0, 0, next.at as u64];
+            *out = [0, 0, 0, 0, next.at as u64, 0, 0];
             0
         }
         Arrived::Refused => 2,
@@ -90,40 +111,28 @@ pub extern "C" fn brine_arrive(a: &[u8], limit: usize, at: usize, out: &mut [u64
 
 // A step of a run.
 #[no_mangle]
-pub extern "C" fn brine_run(s: &[u8], at: usize, out: &mut [u64; 5]) -> u32
+pub extern "C" fn brine_run(s: &[u8], at: usize, out: &mut [u64; 7]) -> u32
     ensures { λ r. ⌜ r ≡ 0 ⌝ }
     ensures { λ r. ⌜ now (out .exit) ≡ itemPlaces (runStep (now (s .entry)) at) (now (out .entry)) ⌝ }
 {
     let t = Run { at }.step(s);
     match t {
-        RunNext::Item(k, next) => *out = [
-            1,
-            k.at as u64,
-            k.value as u64,
-            k.len as u64,
-            next.at as u64,
-        ],
-        RunNext::End => *out = [0, 0, 0, 0, at as u64],
+        RunNext::Item(k, next) => put(k, next.at, out),
+        RunNext::End => *out = [0, 0, 0, 0, at as u64, 0, 0],
     }
     0
 }
 
 // A step over a set's items.
 #[no_mangle]
-pub extern "C" fn brine_item(s: &[u8], tag: usize, ber: bool, at: usize, out: &mut [u64; 5]) -> u32
+pub extern "C" fn brine_item(s: &[u8], tag: usize, ber: bool, at: usize, out: &mut [u64; 7]) -> u32
     ensures { λ r. ⌜ r ≡ 0 ⌝ }
     ensures { λ r. ⌜ now (out .exit) ≡ itemPlaces (itemStep tag ber (now (s .entry)) at) (now (out .entry)) ⌝ }
 {
     let t = Local { at }.step(s, Coding { tag, ber });
     match t {
-        LocalNext::Item(k, next) => *out = [
-            1,
-            k.at as u64,
-            k.value as u64,
-            k.len as u64,
-            next.at as u64,
-        ],
-        LocalNext::End => *out = [0, 0, 0, 0, at as u64],
+        LocalNext::Item(k, next) => put(k, next.at, out),
+        LocalNext::End => *out = [0, 0, 0, 0, at as u64, 0, 0],
     }
     0
 }

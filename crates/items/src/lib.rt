@@ -49,6 +49,8 @@ fn item_at(s: &[u8], at: usize, key: usize, ber: bool) -> Whole
         at,
         value,
         len: n as usize,
+        size: f.size,
+        shortest: f.shortest,
     })
 }
 

@@ -8,7 +8,7 @@ use Rattle.klv.specs.declared.Klv.{Klv}
 
 -- the one at p whose key takes `key` bytes, by the length behind its key
 abbrev pub klv : ℕ → ℕ → Field → Klv
-klv key p f = record { at = p; value = p + key + f .size; len = f .value }
+klv key p f = record { at = p; value = p + key + f .size; len = f .value; size = f .size; shortest = f .shortest }
 
 -- the place behind its value
 abbrev pub past : Klv → ℕ

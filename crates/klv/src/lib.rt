@@ -1,5 +1,5 @@
-// A KLV, what every walk, run and set gives: where its key starts, where its value starts and how long that is. Its
-// bytes stay in the buffer, and are handed out as parts of it.
+// A KLV, what every walk, run and set gives: where its key starts, where its value starts and how long that is, the bytes that
+// its length took and whether they are the shortest form. Its bytes stay in the buffer, and are handed out as parts of it.
 ghost use mathlib.Core.Path.{_≡_};
 ghost use lib.ListN.{take, drop};
 ghost use Rattle.labels.specs.Label.{labelAt};
@@ -8,6 +8,8 @@ pub struct Klv {
     pub at: usize,
     pub value: usize,
     pub len: usize,
+    pub size: usize,
+    pub shortest: bool,
 }
 
 impl Klv {

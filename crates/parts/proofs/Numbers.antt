@@ -2,7 +2,7 @@
 use Prim.Native.Nat.{ℕ, zero, suc, _+_, _*_, _%_, _^_, _≤_, _<_}
 use mathlib.Core.Path.{_≡_, refl}
 use mathlib.Core.List.{List}
-use native.Mathlib.Nat.{pow-le-pow-right, lt-of-lt-of-le, pow-zero, zero-add}
+use native.Mathlib.Nat.{pow-le-pow-right, lt-of-lt-of-le, pow-zero, zero-add, add-zero}
 use native.Mathlib.Numerals.{add-one}
 use native.Mathlib.Omega.{arith}
 use lib.ListN.{getD}
@@ -21,6 +21,17 @@ pub number-below : (s : List ℕ) (from n : ℕ) → Bytes s → numberAt s from
 unfolding numberAt
 number-below s from zero b = rw pow-zero (lit< tt)
 number-below s from (suc n) b = omega (arith, number-below s from n b, b (from + n))
+
+-- and one below 256 to the n - 1 exactly where the first of them is 0
+pub number-low : (s : List ℕ) (from m : ℕ) → Bytes s → getD s from 0 ≡ 0 → numberAt s from (suc m) < 256 ^ m
+unfolding numberAt
+number-low s from zero b e = rw (pow-zero, add-zero from, e) (lit< tt)
+number-low s from (suc m) b e = omega (arith, number-low s from m b e, b (from + suc m))
+
+pub number-high : (s : List ℕ) (from m : ℕ) → 1 ≤ getD s from 0 → 256 ^ m ≤ numberAt s from (suc m)
+unfolding numberAt
+number-high s from zero h = rw (pow-zero, add-zero from) (omega arith)
+number-high s from (suc m) h = omega (arith, number-high s from m h)
 
 -- so up to eight fit in 64 bits
 pub number-fits : (s : List ℕ) (from n : ℕ) → Bytes s → n ≤ 8 → numberAt s from n < 2 ^ 64

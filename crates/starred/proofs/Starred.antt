@@ -9,9 +9,8 @@ use lib.Seq.{getD-append-seam}
 use lib.Ieee.{ofInt, div, mul}
 use Rattle.parts.specs.Number.{numberAt}
 use Rattle.labels.specs.Label.{beginning, keyAt}
-use Rattle.lengths.specs.declared.Length.the-variants.{Is}
-use Rattle.lengths.specs.Length.{field, heldAt, lengthBy, lengthAt}
-use Rattle.lengths.proofs.Laws.{short}
+use Rattle.lengths.specs.Length.{boundOf, shortestOf, heldAt, lengthBy, lengthAt}
+use Rattle.lengths.proofs.Laws.{short-read}
 use Rattle.search.specs.Search.{keyBefore, first, firstBelow, keyBegins}
 use Rattle.klv.specs.Item.{item}
 use Rattle.steps.specs.Listed.{before, atMost, listFrom}
@@ -30,27 +29,27 @@ use Rattle.arri_alexa35_items.specs.Kinds.{metresOf}
 use Rattle.floats.specs.Rounding.{nearestF32, narrowF32}
 use Rattle.floats.specs.Quotients.{quotient, thousandthsF32, decimal, metres, metresOfMillimetres}
 use Rattle.floats.proofs.Whole.{within-128}
-use Rattle.starred.specs.Starred.{Lengths, Finished, Arriving, Floats, Distances, Apertures, Starred}
+use Rattle.starred.specs.Starred.{is, Lengths, Finished, Arriving, Floats, Distances, Apertures, Starred}
 
 lengths : Lengths
-unfolding numberAt heldAt lengthBy lengthAt
+unfolding numberAt boundOf shortestOf heldAt lengthBy lengthAt
 lengths = (refl, refl, refl, refl, refl, refl, refl)
 
-one-record : (k : List ℕ) → length k ≡ 16 → keyAt k 0 ≡ true → finished (k ++ (0x00 ∷ [])) ≡ item 16 k (record { at = 0; value = 17; len = 0 }) ∷ []
+one-record : (k : List ℕ) → length k ≡ 16 → keyAt k 0 ≡ true → finished (k ++ (0x00 ∷ [])) ≡ item 16 k (record { at = 0; value = 17; len = 0; size = 1; shortest = true }) ∷ []
 one-record k h start =
     let s = k ++ (0x00 ∷ []) in
     let n : length s ≡ 17 = length-append k (0x00 ∷ []) ∙ omega arith in
     let byte : getD s 16 0 ≡ 0 = rw h at (getD-append-seam k 0x00 [] 0) in
-    let len : lengthAt s 16 ≡ Is (field 0 1) = rw byte at (short s 16 (omega arith) (omega arith)) in
-    fin-record stepped stepped-on s 0 _ (rule-record 0 s (length s) 0 (omega arith) (key-kept k (0x00 ∷ []) 0 true (omega arith) start) (field 0 1) len (omega arith))
-    ∙ rw (item-kept k (0x00 ∷ []) (record { at = 0; value = 17; len = 0 }) (omega arith), fin-stop stepped stepped-on s 17 (rule-end 0 s (length s) 17 (omega arith)))
+    let len : lengthAt s 16 ≡ is 0 1 true = rw byte at (short-read s 16 (omega arith) (omega arith)) in
+    fin-record stepped stepped-on s 0 _ (rule-record 0 s (length s) 0 (omega arith) (key-kept k (0x00 ∷ []) 0 true (omega arith) start) _ len (omega arith))
+    ∙ rw (item-kept k (0x00 ∷ []) (record { at = 0; value = 17; len = 0; size = 1; shortest = true }) (omega arith), fin-stop stepped stepped-on s 17 (rule-end 0 s (length s) 17 (omega arith)))
 
 finished-so : Finished
-unfolding numberAt keyAt heldAt lengthBy lengthAt keyBefore first firstBelow before atMost listFrom byValue byLength rules onTurn turnsAtMost walked finishedAfter finishedBy
+unfolding numberAt keyAt boundOf shortestOf heldAt lengthBy lengthAt keyBefore first firstBelow before atMost listFrom byValue byLength rules onTurn turnsAtMost walked finishedAfter finishedBy
 finished-so = (λ s h. fin-stop stepped stepped-on s 0 (rule-end 0 s (length s) 0 (omega arith)), one-record, refl)
 
 arriving-so : Arriving
-unfolding numberAt keyAt heldAt lengthBy lengthAt keyBefore first firstBelow beginning keyBegins byValue byLength rules onTurn turnsAtMost walked arrivingAfter arrivingBy arrivingStep
+unfolding numberAt keyAt boundOf shortestOf heldAt lengthBy lengthAt keyBefore first firstBelow beginning keyBegins byValue byLength rules onTurn turnsAtMost walked arrivingAfter arrivingBy arrivingStep
 arriving-so = (refl, refl, refl)
 
 floats : Floats

@@ -6,8 +6,9 @@ use mathlib.Core.Bool.{Bool, true, false}
 use lib.ListN.{length, replicate}
 use lib.Ieee.{Float}
 use Rattle.steps.specs.Told.{nothing}
+use Rattle.lengths.specs.declared.Length.{Length}
 use Rattle.lengths.specs.declared.Length.the-variants.{Is, Cut, None}
-use Rattle.lengths.specs.Length.{field, lengthAt}
+use Rattle.lengths.specs.Length.{lengthAt}
 use Rattle.labels.specs.Label.{keyAt}
 use Rattle.klv.specs.Item.{item}
 use Rattle.walk.specs.declared.Turn.the-variants.{Search}
@@ -27,14 +28,18 @@ use Rattle.arri_alexa35_items.specs.Kinds as alexa35
 abbrev pub key : List ℕ
 key = 0x06 ∷ 0x0e ∷ 0x2b ∷ 0x34 ∷ 0x01 ∷ 0x01 ∷ 0x01 ∷ 0x0d ∷ 0x0e ∷ 0x15 ∷ 0x00 ∷ 0x01 ∷ 0x00 ∷ 0x01 ∷ 0x00 ∷ 0x00 ∷ []
 
+-- a length: its number, its bytes, and whether that is its shortest form ("L1. How long the length field was")
+abbrev pub is : ℕ → ℕ → Bool → Length
+is value size shortest = Is (record { value = value; size = size; shortest = shortest })
+
 -- `7f`: 127, 1 byte. `80`: 0, 1 byte. `8100`: 0, 2 bytes. `820100`: 256, 3 bytes. `88` and eight `ff`: 2^64 - 1. `89`: none. `81` alone: cut
 abbrev pub Lengths : Type 0
 Lengths =
-    (lengthAt (0x7f ∷ []) 0 ≡ Is (field 127 1))
-    × (lengthAt (0x80 ∷ []) 0 ≡ Is (field 0 1))
-    × (lengthAt (0x81 ∷ 0x00 ∷ []) 0 ≡ Is (field 0 2))
-    × (lengthAt (0x82 ∷ 0x01 ∷ 0x00 ∷ []) 0 ≡ Is (field 256 3))
-    × (lengthAt (0x88 ∷ replicate 8 0xff) 0 ≡ Is (field (2 ^ 64 - 1) 9))
+    (lengthAt (0x7f ∷ []) 0 ≡ is 127 1 true)
+    × (lengthAt (0x80 ∷ []) 0 ≡ is 0 1 false)
+    × (lengthAt (0x81 ∷ 0x00 ∷ []) 0 ≡ is 0 2 false)
+    × (lengthAt (0x82 ∷ 0x01 ∷ 0x00 ∷ []) 0 ≡ is 256 3 true)
+    × (lengthAt (0x88 ∷ replicate 8 0xff) 0 ≡ is (2 ^ 64 - 1) 9 true)
     × (lengthAt (0x89 ∷ []) 0 ≡ None)
     × (lengthAt (0x81 ∷ []) 0 ≡ Cut)
 
@@ -42,7 +47,7 @@ Lengths =
 abbrev pub Finished : Type 0
 Finished =
     ((s : List ℕ) → length s ≡ 16 → finished s ≡ [])
-    × ((k : List ℕ) → length k ≡ 16 → keyAt k 0 ≡ true → finished (k ++ (0x00 ∷ [])) ≡ item 16 k (record { at = 0; value = 17; len = 0 }) ∷ [])
+    × ((k : List ℕ) → length k ≡ 16 → keyAt k 0 ≡ true → finished (k ++ (0x00 ∷ [])) ≡ item 16 k (record { at = 0; value = 17; len = 0; size = 1; shortest = true }) ∷ [])
     × (finished (key ++ (0x01 ∷ [])) ≡ [])
 
 -- when arriving, it waits at limit 18, and at limit 17 searches

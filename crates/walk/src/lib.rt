@@ -57,6 +57,8 @@ fn look(s: &[u8], end: usize, limit: usize, p: usize) -> Turn
             at: p,
             value: v,
             len: n as usize,
+            size: f.size,
+            shortest: f.shortest,
         });
     }
     if n <= saturating_sub(limit, v) as u64 {

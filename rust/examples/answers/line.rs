@@ -15,7 +15,7 @@ pub enum Field {
 }
 
 /// Every word with its fields.
-pub const WORDS: [(&[u8], &[Field]); 20] = [
+pub const WORDS: [(&[u8], &[Field]); 24] = [
     (b"ber", &[]),
     (b"walk", &[Field::End]),
     (b"step", &[Field::End, Field::Number]),
@@ -36,6 +36,10 @@ pub const WORDS: [(&[u8], &[Field]); 20] = [
     (b"package", &[]),
     (b"sequence", &[]),
     (b"canon", &[Field::End]),
+    (b"form", &[]),
+    (b"forms", &[Field::End]),
+    (b"formrun", &[]),
+    (b"formitems", &[Field::Number, Field::Coding]),
 ];
 
 /// A case. Numbers that its word has no field for are 0.

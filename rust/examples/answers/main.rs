@@ -3,6 +3,7 @@
 
 mod arri;
 mod canon;
+mod forms;
 mod line;
 mod sony;
 mod text;
@@ -64,6 +65,10 @@ fn reply(out: &mut Text, case: &Case) -> std::result::Result<(), Refusal> {
         b"package" => canon::package(out, s),
         b"sequence" => canon::sequence(out, s),
         b"canon" => canon::frames(out, s, a)?,
+        b"form" => forms::form(out, s),
+        b"forms" => forms::forms(out, s, a)?,
+        b"formrun" => forms::run(out, s),
+        b"formitems" => forms::items(out, s, a, b == 1),
         _ => unreachable!("the words of line::WORDS are all here"),
     }
     Ok(())
@@ -93,8 +98,23 @@ mod tests {
     #[test]
     fn refusals_are_answered_by_their_numbers() {
         assert_eq!(answered("walk 1 -"), "refused 1");
+        assert_eq!(answered("forms 1 -"), "refused 1");
         assert_eq!(answered("arrive 0 00"), "refused 2");
         assert_eq!(answered("set 30010008"), "refused 4");
+    }
+
+    #[test]
+    fn lengths_tell_of_their_forms() {
+        assert_eq!(
+            ["00", "80", "8180", "8200ff", "89"].map(|bytes| answered(&format!("form {bytes}"))),
+            ["0 1 1", "0 1 0", "128 2 1", "255 3 0", "none"]
+        );
+        let (first, second) = ("060e2b340101010d0e15000100010000", "060e2b340101010e0e15000100010000");
+        let records = format!("1,{first},18,2,1,1;20,{second},38,0,2,0;");
+        assert_eq!(answered(&format!("forms n 00{first}02aabb{second}8100")), records);
+        assert_eq!(answered(&format!("formrun {first}80")), format!("0,{first},17,0,1,0;"));
+        assert_eq!(answered("formitems 2 1 3c0a8101aa3c0b01bb"), "3c0a,4,1,2,0;3c0b,8,1,1,1;");
+        assert_eq!(answered("formitems 1 0 880001aa"), "88,3,1,2,1;");
     }
 
     #[test]
@@ -105,6 +125,6 @@ mod tests {
         });
         let no_values = "fl=- fd=- ts=- et=- sa=- tr=- ei=- wb=- nd=- efl=- wbf=- enc=-/-/-/-/-/- tint=- fps=-";
         assert_eq!(answers[..11], ["cut", "|0", "-|0", "", "|0", "|0", "-", "", "", "-", "?"]);
-        assert_eq!(answers[11..], [no_values, "", "0,-", "", "", "", "", "", ""]);
+        assert_eq!(answers[11..], [no_values, "", "0,-", "", "", "", "", "", "", "cut", "", "", ""]);
     }
 }

@@ -18,7 +18,7 @@ fn put_cursor(out: &mut Text, cursor: usize) {
 /// `ber`: the length and its bytes.
 pub fn ber(out: &mut Text, s: &[u8]) {
     match read_ber(s, 0) {
-        Length::Is { number, bytes } => out.number(number).put(" ").number(bytes as u64),
+        Length::Is { number, bytes, .. } => out.number(number).put(" ").number(bytes as u64),
         Length::Cut => out.put("cut"),
         Length::None => out.put("none"),
     };

@@ -11,6 +11,9 @@ read-requires c κs = search needs
 enum-known-l : tie.Need-enum-known-l
 enum-known-l c = search needs
 
+mark-requires : tie.Need-mark-requires
+mark-requires c κs = search needs
+
 enum-told : tie.Need-enum-told
 enum-told c = search needs
 
@@ -19,7 +22,7 @@ enum-told-2 c = search needs
 
 returns : tie.Need-returns
 unfolding lengthPlaces
-returns c = (refl, rw (sym (c .before .before .before .before .read .ensures), c .before .before .l .given .1) refl)
+returns c = (refl, rw (c .before .mark .ensures, sym (c .before .before .before .before .before .read .ensures), c .before .before .before .l .given .1) refl)
 
 returns-2 : tie.Need-returns-2
 unfolding lengthPlaces
@@ -32,4 +35,4 @@ returns-3 c = (refl, rw (sym (c .before .before .before .read .ensures), c .befo
 pub brine-length-spec : {M : Type 1} → statement M
 brine-length-spec =
     tie.close
-    (tie.spec read-requires enum-known-l enum-told enum-told-2 returns returns-2 returns-3)
+    (tie.spec read-requires enum-known-l mark-requires enum-told enum-told-2 returns returns-2 returns-3)

@@ -10,6 +10,9 @@ step-requires c κs = search needs
 enum-known-t : tie.Need-enum-known-t
 enum-known-t c = search needs
 
+put-requires : tie.Need-put-requires
+put-requires c κs = search needs
+
 enum-known-t-2 : tie.Need-enum-known-t-2
 enum-known-t-2 c = search needs
 
@@ -17,7 +20,7 @@ enum-told : tie.Need-enum-told
 enum-told c = search needs
 
 returns : tie.Need-returns
-returns c = is-found _ _ _ _ (rw (c .before .before .t .given .1) at (c .before .before .before .before .step .ensures))
+returns c = rw (c .put .ensures) (is-found _ _ _ _ (rw (c .before .before .before .t .given .1) at (c .before .before .before .before .before .step .ensures)))
 
 returns-2 : tie.Need-returns-2
 returns-2 c = is-nothing _ _ _ (rw (c .before .before .t2 .given .1) at (c .before .before .before .before .step .ensures))
@@ -28,4 +31,4 @@ returns-3 c = is-refused _ _ _ _ (rw (c .enum-told .given .1) at (c .before .bef
 pub brine-step-spec : {M : Type 1} → statement M
 brine-step-spec =
     tie.close
-    (tie.spec step-requires enum-known-t enum-known-t-2 enum-told returns returns-2 returns-3)
+    (tie.spec step-requires enum-known-t put-requires enum-known-t-2 enum-told returns returns-2 returns-3)

@@ -1,7 +1,8 @@
 -- `lengths::read` meets its contract: each return is one case of the definition.
 use mathlib.Core.Path.{sym, _∙_}
 use native.Mathlib.Omega.{arith}
-use Rattle.lengths.proofs.Laws.{past, short, no-length, more, held-read, held-cut}
+use Rattle.parts.proofs.Parts.{number-read}
+use Rattle.lengths.proofs.Laws.{past, short-read, no-length, more, held-read, held-cut}
 use borrow.Author.Needs.{needs}
 use Rattle.lengths.proofs.read.Statement.{statement}
 use Rattle.lengths.proofs.read.Tie as tie
@@ -16,7 +17,7 @@ u64-of-requires : tie.Need-u64-of-requires
 u64-of-requires c κs = search needs
 
 returns-2 : tie.Need-returns-2
-returns-2 c = rw (c .u64-of .ensures) (sym (short _ _ (omega arith) (omega arith)))
+returns-2 c = rw (c .u64-of .ensures) (sym (short-read _ _ (omega arith) (omega arith)))
 
 returns-3 : tie.Need-returns-3
 returns-3 c = sym (no-length _ _ (omega arith) (omega arith))
@@ -51,12 +52,18 @@ part-number-end c = search needs
 number-requires : tie.Need-number-requires
 number-requires c κs = search needs
 
+shortest-requires : tie.Need-shortest-requires
+shortest-requires c κs =
+    let k = c .before .before .before .before .before in
+    (omega arith, (omega arith, c .number .ensures ∙ number-read _ _ _ (λ i. k .shared-slice-known2 .given i .fits) (omega arith) (omega arith)))
+
 returns-5 : tie.Need-returns-5
 returns-5 c =
-    let k = c .before .before .before .before .before in
-    sym
+    let k = c .before .before .before .before .before .before in
+    rw (c .shortest .ensures)
+    (sym
     (more _ _ (omega arith) (omega arith) (omega arith)
-    ∙ held-read _ _ _ _ (λ i. k .shared-slice-known2 .given i .fits) (omega arith) (omega arith) _ (c .number .ensures))
+    ∙ held-read _ _ _ _ (λ i. k .shared-slice-known2 .given i .fits) (omega arith) (omega arith) _ (c .before .number .ensures)))
 
 pub read-spec : {M : Type 1} → statement M
 read-spec =
@@ -77,4 +84,5 @@ read-spec =
     part-number-start
     part-number-end
     number-requires
+    shortest-requires
     returns-5)
