@@ -203,7 +203,7 @@ fn look(s: &[u8], end: usize, camera: Camera, from: Place) -> Looked
     let t = Cursor { at: from.at }.step(s, end);
     match t {
         Step::Record(k, c) => met(s, camera, number, k, c.at),
-        Step::Over(c) => Looked::Found(FrameStep::Over(Place { at: c.at, number })),
+        Step::Rests(c) => Looked::Found(FrameStep::Over(Place { at: c.at, number })),
         // Never: the end lies within the buffer.
         Step::Refused => Looked::Found(FrameStep::Refused),
     }

@@ -22,6 +22,12 @@ length-put k at lent =
     let d = set c (at + 3) (k .size) in
     length-set d (at + 4) (mark (k .shortest)) ∙ length-set c (at + 3) (k .size) ∙ length-set b (at + 2) (k .len) ∙ length-set a (at + 1) (k .value) ∙ length-set lent at (k .at)
 
+-- a step that gives no record, and hands back the cursor q
+abbrev pub Ends : Told Item → ℕ → Type 0
+Ends (found i r) q = ⊥
+Ends (nothing r) q = r ≡ q
+Ends (refused n r) q = r ≡ q
+
 module _ (step : ℕ → Told Item) where
   -- one step more
   module _ (n p q : ℕ) where
@@ -29,17 +35,15 @@ module _ (step : ℕ → Told Item) where
     unfolding atMost before
     list-found i f = rw (sym f) refl
 
-    list-nothing : nothing q ≡ step p → atMost step (suc n) p ≡ []
-    unfolding atMost before
-    list-nothing f = rw (sym f) refl
-
     end-found : (i : Item) → found i q ≡ step p → endAtMost step (suc n) p ≡ endAtMost step n q
     unfolding endAtMost onward
     end-found i f = rw (sym f) refl
 
-    end-nothing : nothing q ≡ step p → endAtMost step (suc n) p ≡ q
-    unfolding endAtMost onward
-    end-nothing f = rw (sym f) refl
+    list-ends : (t : Told Item) → t ≡ step p → Ends t q → (atMost step (suc n) p ≡ []) × (endAtMost step (suc n) p ≡ q)
+    unfolding atMost before endAtMost onward
+    list-ends (found i r) f e = absurd e
+    list-ends (nothing r) f e = (rw (sym f) refl, rw (sym f) e)
+    list-ends (refused m r) f e = (rw (sym f) refl, rw (sym f) e)
 
   -- `count` records were put, there is room for `left` more, and the next step starts at p
   pub record Going (lent₀ : List ℕ) (p₀ : ℕ) (lent : List ℕ) (left count p : ℕ) : Type 0 where
@@ -82,14 +86,15 @@ module _ (step : ℕ → Told Item) where
             room = omega (arith, g .room);
           }
 
-      -- nothing comes
-      pub going-nothing : (q left : ℕ) → Going lent₀ p₀ lent left count p → 0 < left → nothing q ≡ step p → Put lent₀ p₀ lent (record { count = count; next = q })
+      -- no record comes
+      pub going-ends : (t : Told Item) (q left : ℕ) → Going lent₀ p₀ lent left count p → 0 < left → t ≡ step p → Ends t q → Put lent₀ p₀ lent (record { count = count; next = q })
       unfolding recordsPut
-      going-nothing q zero g h f = absurd (omega arith)
-      going-nothing q (suc n) g h f =
-          let all : count ≡ length (batch step lent₀ p₀) = omega (arith, rw (list-nothing n p q f) at (g .counted)) in
-          let ends : q ≡ endAtMost step (length lent₀ / placesEach) p₀ = sym (end-nothing n p q f) ∙ g .ends in
-          (batch-is all ends, rw (list-nothing n p q f) at (g .put))
+      going-ends t q zero g h f e = absurd (omega arith)
+      going-ends t q (suc n) g h f e =
+          let none = list-ends n p q t f e in
+          let all : count ≡ length (batch step lent₀ p₀) = omega (arith, rw (none .0) at (g .counted)) in
+          let ends : q ≡ endAtMost step (length lent₀ / placesEach) p₀ = sym (none .1) ∙ g .ends in
+          (batch-is all ends, rw (none .0) at (g .put))
 
       -- there is no room for more
       pub going-full : (left : ℕ) → Going lent₀ p₀ lent left count p → left ≡ 0 → Put lent₀ p₀ lent (record { count = count; next = p })

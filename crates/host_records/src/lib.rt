@@ -5,13 +5,14 @@ ghost use Prim.Native.Nat.{_+_, _/_, _≤_, _<_};
 ghost use lib.ListN.{length};
 ghost use Rattle.steps.specs.Told.{number};
 ghost use Rattle.walk.specs.Walk.{finishedStep, arrivingStep};
+ghost use Rattle.walk.specs.Told.{stepOn};
 ghost use Rattle.tally.specs.Groups.{groupsOf, answerOf, front};
 ghost use Rattle.host_records.specs.Batch.{placesEach, recordPut, recordsPut, batch, batchOf, batchInto, batchPlaces, tallyPlaces};
 use host_numbers::mark;
 use klv::Klv;
-use walk::Arrived;
 use walk::Cursor;
 use walk::Step;
+use walk::Way;
 
 // How many records were put, and where the next step starts.
 pub struct Batch {
@@ -39,46 +40,20 @@ fn put_record(records: &mut [u64], at: usize, k: Klv)
     records[at + 4] = shortest;
 }
 
-// Puts the records of the finished walk from a place on, as many as there is room for.
-fn put_finished(s: &[u8], end: usize, at: usize, records: &mut [u64]) -> Batch
-    requires { ⌜ end ≤ length (now s) ⌝ }
-    ensures { λ r. ⌜ r ≡ batchOf (finishedStep (now (s .entry)) end) (length (now (records .entry)) / placesEach) at ⌝ }
-    ensures { λ r. ⌜ now (records .exit) ≡ recordsPut (batch (finishedStep (now (s .entry)) end) (now (records .entry)) at) 0 (now (records .entry)) ⌝ }
+// Puts the records of a walk from a place on, as many as there is room for.
+fn put_records(s: &[u8], way: Way, at: usize, records: &mut [u64]) -> Batch
+    ensures { λ r. ⌜ r ≡ batchOf (stepOn way (now (s .entry))) (length (now (records .entry)) / placesEach) at ⌝ }
+    ensures { λ r. ⌜ now (records .exit) ≡ recordsPut (batch (stepOn way (now (s .entry))) (now (records .entry)) at) 0 (now (records .entry)) ⌝ }
 {
     let mut left = records.len() / PLACES_EACH;
     let mut count = 0;
     let mut next = at;
     while 0 < left {
-        let t = Cursor { at: next }.step(s, end);
+        let t = Cursor { at: next }.on(s, way);
         match t {
-            Step::Over(c) => return Batch { count, next: c.at },
+            Step::Rests(c) => return Batch { count, next: c.at },
             Step::Refused => return Batch { count, next },
             Step::Record(k, c) => {
-                put_record(records, PLACES_EACH * count, k);
-                left -= 1;
-                count += 1;
-                next = c.at;
-            }
-        }
-    }
-    Batch { count, next }
-}
-
-// Puts the records of the arriving walk from a place on, as many as there is room for.
-fn put_arriving(a: &[u8], limit: usize, at: usize, records: &mut [u64]) -> Batch
-    requires { ⌜ length (now a) ≤ limit ⌝ }
-    ensures { λ r. ⌜ r ≡ batchOf (arrivingStep limit (now (a .entry))) (length (now (records .entry)) / placesEach) at ⌝ }
-    ensures { λ r. ⌜ now (records .exit) ≡ recordsPut (batch (arrivingStep limit (now (a .entry))) (now (records .entry)) at) 0 (now (records .entry)) ⌝ }
-{
-    let mut left = records.len() / PLACES_EACH;
-    let mut count = 0;
-    let mut next = at;
-    while 0 < left {
-        let t = Cursor { at: next }.arrive(a, limit);
-        match t {
-            Arrived::Waits(c) => return Batch { count, next: c.at },
-            Arrived::Refused => return Batch { count, next },
-            Arrived::Record(k, c) => {
                 put_record(records, PLACES_EACH * count, k);
                 left -= 1;
                 count += 1;
@@ -105,7 +80,7 @@ pub extern "C" fn brine_records(
     if s.len() < end {
         return 1;
     }
-    let b = put_finished(s, end, at, records);
+    let b = put_records(s, Way::Finished(end), at, records);
     *out = [b.count as u64, b.next as u64];
     0
 }
@@ -126,7 +101,7 @@ pub extern "C" fn brine_arrivals(
     if limit < a.len() {
         return 2;
     }
-    let b = put_arriving(a, limit, at, records);
+    let b = put_records(a, Way::Arriving(limit), at, records);
     *out = [b.count as u64, b.next as u64];
     0
 }

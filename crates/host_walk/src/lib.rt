@@ -15,7 +15,6 @@ use items::Run;
 use items::RunNext;
 use klv::Klv;
 use lengths::Length;
-use walk::Arrived;
 use walk::Cursor;
 use walk::Step;
 
@@ -81,7 +80,7 @@ pub extern "C" fn brine_step(s: &[u8], end: usize, at: usize, out: &mut [u64; 7]
             put(k, next.at, out);
             0
         }
-        Step::Over(next) => {
+        Step::Rests(next) => {
             *out = [0, 0, 0, 0, next.at as u64, 0, 0];
             0
         }
@@ -97,15 +96,15 @@ pub extern "C" fn brine_arrive(a: &[u8], limit: usize, at: usize, out: &mut [u64
 {
     let t = Cursor { at }.arrive(a, limit);
     match t {
-        Arrived::Record(k, next) => {
+        Step::Record(k, next) => {
             put(k, next.at, out);
             0
         }
-        Arrived::Waits(next) => {
+        Step::Rests(next) => {
             *out = [0, 0, 0, 0, next.at as u64, 0, 0];
             0
         }
-        Arrived::Refused => 2,
+        Step::Refused => 2,
     }
 }
 

@@ -31,7 +31,7 @@ fn put_records(out: &mut [u8], at: usize, s: &[u8]) -> Lines
         let c = Cursor { at: from };
         let r = c.step(s, s.len());
         match r {
-            Step::Over(_) => return Lines { records, at: p },
+            Step::Rests(_) => return Lines { records, at: p },
             Step::Refused => return Lines { records, at: p },
             Step::Record(k, next) => {
                 let a = put_klv(out, p, s, k, b' ');

@@ -1,16 +1,16 @@
 -- The list that stepping gives: each step's item, then the list from the cursor that it hands back.
 use Prim.Native.Nat.{ℕ, zero, suc, _-_}
 use mathlib.Core.List.{List, [], _∷_}
-use Rattle.steps.specs.Told.{Told, found, nothing, refused}
+use Rattle.steps.specs.Told.{Told, ToldAt, found, nothing, refused}
 
 -- a step's item before what comes from its cursor on; no item ends the list
-unfoldable pub before : {A : Type 0} → (ℕ → List A) → Told A → List A
+unfoldable pub before : {C A : Type 0} → (C → List A) → ToldAt C A → List A
 before again (found a q) = a ∷ again q
 before again (nothing q) = []
 before again (refused n q) = []
 
 -- the items of at most `fuel` steps from p on
-unfoldable pub atMost : {A : Type 0} → (ℕ → Told A) → ℕ → ℕ → List A
+unfoldable pub atMost : {C A : Type 0} → (C → ToldAt C A) → ℕ → C → List A
 atMost step zero p = []
 atMost step (suc fuel) p = before (λ q. atMost step fuel q) (step p)
 
@@ -20,12 +20,12 @@ unfoldable pub listFrom : {A : Type 0} → (ℕ → Told A) → ℕ → ℕ → 
 listFrom step e p = atMost step (suc (e - p)) p
 
 -- the cursor that the last of these steps hands back
-unfoldable pub onward : {A : Type 0} → (ℕ → ℕ) → Told A → ℕ
+unfoldable pub onward : {C A : Type 0} → (C → C) → ToldAt C A → C
 onward again (found a q) = again q
 onward again (nothing q) = q
 onward again (refused n q) = q
 
-unfoldable pub endAtMost : {A : Type 0} → (ℕ → Told A) → ℕ → ℕ → ℕ
+unfoldable pub endAtMost : {C A : Type 0} → (C → ToldAt C A) → ℕ → C → C
 endAtMost step zero p = p
 endAtMost step (suc fuel) p = onward (λ q. endAtMost step fuel q) (step p)
 

@@ -95,7 +95,7 @@ fn count_in(s: &[u8], firsts: &mut [usize], counts: &mut [usize]) -> Tally
         let c = Cursor { at };
         let r = c.step(s, s.len());
         match r {
-            Step::Over(_) => return t,
+            Step::Rests(_) => return t,
             Step::Refused => return t,
             Step::Record(k, next) => {
                 t = add(s, firsts, counts, t, k.at);

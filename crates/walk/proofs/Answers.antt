@@ -5,18 +5,18 @@ use mathlib.Core.List.{List}
 use native.Mathlib.Omega.{arith}
 use borrow.Author.Tests.{le-ltb, lt-ltb}
 use lib.ListN.{length}
-use Rattle.steps.specs.Told.{found, nothing, refused}
+use Rattle.steps.specs.Told.{Told, found, nothing, refused}
 use Rattle.search.specs.Search.{waitFrom}
 use Rattle.klv.specs.declared.Klv.{Klv}
 use Rattle.klv.specs.Item.{Item, item, past}
 use Rattle.walk.specs.declared.Walked.{Walked}
 use Rattle.walk.specs.declared.Walked.the-variants.{Found, Stopped, Lost}
+use Rattle.walk.specs.declared.Way.the-variants.{Finished, Arriving}
 use Rattle.walk.specs.declared.Step.{Step}
 use Rattle.walk.specs.declared.Step.the-variants as step
-use Rattle.walk.specs.declared.Arrived.{Arrived}
-use Rattle.walk.specs.declared.Arrived.the-variants as arrived
 use Rattle.walk.specs.Walk.{walked, finishedAfter, finishedBy, arrivingAfter, arrivingBy, stepped, finishedStep, arrivingStep}
-use Rattle.walk.specs.Told.{stepTold, arrivedTold}
+use Rattle.walk.specs.Told.{told, lostAt, Within, answered}
+use Rattle.walk.proofs.Walking.{walk-fits}
 
 -- only an end past the buffer, or bytes past the limit, are refused
 
@@ -112,31 +112,48 @@ module _ (limit : ℕ) (a : List ℕ) (p : ℕ) where
     pub not-past-limit : (n q : ℕ) → arrivingStep limit a p ≡ refused n q → ⊥
     not-past-limit n q x = arriving-never stepped a limit p n q (sym arriving-within ∙ x)
 
--- two answers of a step that say the same are the same
-pub step-once : (s : List ℕ) (p : ℕ) (a b : Step) → stepTold s p a ≡ stepTold s p b → a ≡ b
-step-once s p (step.Record k m) (step.Record l n) e =
-    let x : item 16 s k ≡ item 16 s l = cc in
-    let y : m .at ≡ n .at = cc in
-    λ i. step.Record (x i .klv) (record { at = y i })
-step-once s p (step.Record k m) (step.Over n) e = let z : _≡_ {A = ℕ} 0 1 = cc in absurd (omega arith)
-step-once s p (step.Record k m) step.Refused e = let z : _≡_ {A = ℕ} 0 1 = cc in absurd (omega arith)
-step-once s p (step.Over m) (step.Record l n) e = let z : _≡_ {A = ℕ} 0 1 = cc in absurd (omega arith)
-step-once s p (step.Over m) (step.Over n) e = let y : m .at ≡ n .at = cc in λ i. step.Over (record { at = y i })
-step-once s p (step.Over m) step.Refused e = let z : _≡_ {A = ℕ} 0 1 = cc in absurd (omega arith)
-step-once s p step.Refused (step.Record l n) e = let z : _≡_ {A = ℕ} 0 1 = cc in absurd (omega arith)
-step-once s p step.Refused (step.Over n) e = let z : _≡_ {A = ℕ} 0 1 = cc in absurd (omega arith)
-step-once s p step.Refused step.Refused e = refl
+-- Where turns lead, as a step answers it, is what the definitions say
 
-pub arrived-once : (s : List ℕ) (p : ℕ) (a b : Arrived) → arrivedTold s p a ≡ arrivedTold s p b → a ≡ b
-arrived-once s p (arrived.Record k m) (arrived.Record l n) e =
-    let x : item 16 s k ≡ item 16 s l = cc in
-    let y : m .at ≡ n .at = cc in
-    λ i. arrived.Record (x i .klv) (record { at = y i })
-arrived-once s p (arrived.Record k m) (arrived.Waits n) e = let z : _≡_ {A = ℕ} 0 1 = cc in absurd (omega arith)
-arrived-once s p (arrived.Record k m) arrived.Refused e = let z : _≡_ {A = ℕ} 0 1 = cc in absurd (omega arith)
-arrived-once s p (arrived.Waits m) (arrived.Record l n) e = let z : _≡_ {A = ℕ} 0 1 = cc in absurd (omega arith)
-arrived-once s p (arrived.Waits m) (arrived.Waits n) e = let y : m .at ≡ n .at = cc in λ i. arrived.Waits (record { at = y i })
-arrived-once s p (arrived.Waits m) arrived.Refused e = let z : _≡_ {A = ℕ} 0 1 = cc in absurd (omega arith)
-arrived-once s p arrived.Refused (arrived.Record l n) e = let z : _≡_ {A = ℕ} 0 1 = cc in absurd (omega arith)
-arrived-once s p arrived.Refused (arrived.Waits n) e = let z : _≡_ {A = ℕ} 0 1 = cc in absurd (omega arith)
-arrived-once s p arrived.Refused arrived.Refused e = refl
+-- a record that turns lead to ends within the buffer
+pub walked-within : (limit : ℕ) (s : List ℕ) (e p : ℕ) → e ≤ length s → Within s (walked limit s e p)
+unfolding Within
+walked-within limit s e p h = go (walked limit s e p) refl
+  where
+    go : (w : Walked) → walked limit s e p ≡ w → Within s w
+    go (Found k) x = let f = walk-fits limit s e p k x in omega (arith, f .1 .there, f .1 .within)
+    go (Stopped q) x = tt
+    go (Lost q) x = tt
+
+pub answers-finished : (s : List ℕ) (e p : ℕ) → e ≤ length s → told 1 s p (answered (lostAt (Finished e) s) (walked 0 s e p)) ≡ finishedStep s e p
+unfolding answered lostAt finishedBy finishedAfter
+answers-finished s e p h = go (walked 0 s e p) ∙ sym (finished-within s e p h)
+  where
+    go : (w : Walked) → told 1 s p (answered (lostAt (Finished e) s) w) ≡ finishedAfter stepped s e w
+    go (Found k) = refl
+    go (Stopped q) = refl
+    go (Lost q) = refl
+
+pub answers-arriving : (limit : ℕ) (a : List ℕ) (p : ℕ) → length a ≤ limit
+    → told 2 a p (answered (lostAt (Arriving limit) a) (walked limit a (length a) p)) ≡ arrivingStep limit a p
+unfolding answered lostAt arrivingBy arrivingAfter
+answers-arriving limit a p h = go (walked limit a (length a) p) ∙ sym (arriving-within limit a p h)
+  where
+    go : (w : Walked) → told 2 a p (answered (lostAt (Arriving limit) a) w) ≡ arrivingAfter stepped a w
+    go (Found k) = refl
+    go (Stopped q) = refl
+    go (Lost q) = refl
+
+-- two answers of a step that say the same are the same
+pub step-once : (n : ℕ) (s : List ℕ) (p : ℕ) (a b : Step) → told n s p a ≡ told n s p b → a ≡ b
+step-once n s p a b x = back a ∙ ap answer x ∙ sym (back b)
+  where
+    -- what is said gives the answer back
+    answer : Told Item → Step
+    answer (found i q) = step.Record (i .klv) (record { at = q })
+    answer (nothing q) = step.Rests (record { at = q })
+    answer (refused m q) = step.Refused
+
+    back : (a : Step) → a ≡ answer (told n s p a)
+    back (step.Record k c) = refl
+    back (step.Rests c) = refl
+    back step.Refused = refl

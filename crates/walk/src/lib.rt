@@ -6,7 +6,7 @@ ghost use lib.ListN.{length};
 ghost use Rattle.walk.specs.Rules.{rules};
 ghost use Rattle.walk.specs.declared.Turn.the-variants as turn;
 ghost use Rattle.walk.specs.Walk.{onTurn, walked, finishedStep, arrivingStep};
-ghost use Rattle.walk.specs.Told.{stepTold, arrivedTold};
+ghost use Rattle.walk.specs.Told.{told, refusal, stepOn, lostAt, Within, answered};
 use klv::Klv;
 use lengths::Length;
 use parts::saturating_sub;
@@ -110,71 +110,83 @@ fn turns(s: &[u8], end: usize, limit: usize, p: usize) -> Walked
     }
 }
 
+// Which walk it is: the finished walk up to an end, or the arriving walk within a limit.
+pub enum Way {
+    Finished(usize),
+    Arriving(usize),
+}
+
 // Where a walk stands.
 pub struct Cursor {
     pub at: usize,
 }
 
-// What a step of the finished walk finds.
+// What a step of a walk finds.
 pub enum Step {
     // A record, and the cursor past it.
     Record(Klv, Cursor),
-    // The walk is over.
-    Over(Cursor),
-    // The end is larger than the buffer.
+    // No record: the finished walk is over; the arriving walk waits, and its step is to be made again from this cursor.
+    Rests(Cursor),
+    // The end is larger than the buffer, or there are more bytes than the limit.
     Refused,
 }
 
-// What a step of the arriving walk finds.
-pub enum Arrived {
-    // A record, and the cursor past it.
-    Record(Klv, Cursor),
-    // What comes next has not arrived: the step is to be made again from this cursor.
-    Waits(Cursor),
-    // More bytes than the limit.
-    Refused,
+// Where a search from q on that finds no key leaves a walk.
+fn lost(s: &[u8], way: Way, q: usize) -> usize
+    ensures { λ r. ⌜ r ≡ lostAt way (now (s .entry)) q ⌝ }
+{
+    match way {
+        Way::Finished(end) => larger(end, q),
+        Way::Arriving(_) => search::wait_from(s, q),
+    }
+}
+
+// What a walk's step finds where its turns lead.
+fn answer(s: &[u8], way: Way, w: Walked) -> Step
+    requires { ⌜ Within (now s) w ⌝ }
+    ensures { λ r. ⌜ r ≡ answered (lostAt way (now (s .entry))) w ⌝ }
+{
+    match w {
+        Walked::Found(k) => {
+            let next = k.value + k.len;
+            Step::Record(k, Cursor { at: next })
+        }
+        Walked::Stopped(p) => Step::Rests(Cursor { at: p }),
+        Walked::Lost(q) => {
+            let at = lost(s, way, q);
+            Step::Rests(Cursor { at })
+        }
+    }
 }
 
 impl Cursor {
     // A step of the finished walk: the next record wholly before the end.
     pub fn step(self, s: &[u8], end: usize) -> Step
-        ensures { λ r. ⌜ stepTold (now (s .entry)) (self .at) r ≡ finishedStep (now (s .entry)) end (self .at) ⌝ }
+        ensures { λ r. ⌜ told 1 (now (s .entry)) (self .at) r ≡ finishedStep (now (s .entry)) end (self .at) ⌝ }
     {
         if s.len() < end {
             return Step::Refused;
         }
-        let w = turns(s, end, 0, self.at);
-        match w {
-            Walked::Found(k) => {
-                let next = k.value + k.len;
-                Step::Record(k, Cursor { at: next })
-            }
-            Walked::Stopped(p) => Step::Over(Cursor { at: p }),
-            Walked::Lost(q) => {
-                let at = larger(end, q);
-                Step::Over(Cursor { at })
-            }
-        }
+        answer(s, Way::Finished(end), turns(s, end, 0, self.at))
     }
 
     // A step of the arriving walk: the next record that no later byte, within the limit, can unsay.
-    pub fn arrive(self, a: &[u8], limit: usize) -> Arrived
-        ensures { λ r. ⌜ arrivedTold (now (a .entry)) (self .at) r ≡ arrivingStep limit (now (a .entry)) (self .at) ⌝ }
+    pub fn arrive(self, a: &[u8], limit: usize) -> Step
+        ensures { λ r. ⌜ told 2 (now (a .entry)) (self .at) r ≡ arrivingStep limit (now (a .entry)) (self .at) ⌝ }
     {
         if limit < a.len() {
-            return Arrived::Refused;
+            return Step::Refused;
         }
-        let w = turns(a, a.len(), limit, self.at);
-        match w {
-            Walked::Found(k) => {
-                let next = k.value + k.len;
-                Arrived::Record(k, Cursor { at: next })
-            }
-            Walked::Stopped(p) => Arrived::Waits(Cursor { at: p }),
-            Walked::Lost(q) => {
-                let at = search::wait_from(a, q);
-                Arrived::Waits(Cursor { at })
-            }
+        answer(a, Way::Arriving(limit), turns(a, a.len(), limit, self.at))
+    }
+
+    // A step of either walk.
+    pub fn on(self, s: &[u8], way: Way) -> Step
+        ensures { λ r. ⌜ told (refusal way) (now (s .entry)) (self .at) r ≡ stepOn way (now (s .entry)) (self .at) ⌝ }
+    {
+        match way {
+            Way::Finished(end) => self.step(s, end),
+            Way::Arriving(limit) => self.arrive(s, limit),
         }
     }
 }

@@ -1,6 +1,7 @@
 -- `host_records::brine_arrivals` meets its contract: a refusal is the step's, and what was put is the batch.
 use native.Mathlib.Omega.{arith}
 use Rattle.walk.specs.Walk.{arrivingStep}
+use Rattle.walk.specs.Told.{stepOn}
 use Rattle.walk.proofs.Answers.{arriving-refused, not-past-limit}
 use Rattle.host_records.proofs.Laws.{answered-refused, answered-put}
 use borrow.Author.Needs.{needs}
@@ -12,16 +13,17 @@ returns c =
     let a = c .before .before .before .args in
     answered-refused (arrivingStep (a .limit) (a .a .now)) (a .records .now) (a .out .now) (a .at) _ _ (arriving-refused _ _ _ (omega arith))
 
-put-arriving-requires : tie.Need-put-arriving-requires
-put-arriving-requires c κs = search needs
+put-records-requires : tie.Need-put-records-requires
+put-records-requires c κs = search needs
 
 same-length : tie.Need-same-length
 same-length c = search needs
 
 returns-2 : tie.Need-returns-2
+unfolding stepOn
 returns-2 c =
     let a = c .before .before .before .before .before .before .before .before .args in
-    answered-put (arrivingStep (a .limit) (a .a .now)) (a .records .now) (a .out .now) (a .at) _ _ (not-past-limit _ _ _ (omega arith)) (c .before .before .before .put-arriving .ensures)
+    answered-put (arrivingStep (a .limit) (a .a .now)) (a .records .now) (a .out .now) (a .at) _ _ (not-past-limit _ _ _ (omega arith)) (c .before .before .before .put-records .ensures)
 
 pub brine-arrivals-spec : {M : Type 1} → statement M
-brine-arrivals-spec = tie.close (tie.spec returns put-arriving-requires same-length returns-2)
+brine-arrivals-spec = tie.close (tie.spec returns put-records-requires same-length returns-2)

@@ -1,24 +1,23 @@
--- `host_records::put_arriving` meets its contract. The loop's invariant: what was put, and what the steps left give, is the whole.
-use mathlib.Core.Path.{sym}
+-- `host_records::put_records` meets its contract. The loop's invariant: what was put, and what the steps left give, is the whole.
+use mathlib.Core.Path.{refl}
 use native.Mathlib.Omega.{arith}
-use Rattle.walk.specs.Walk.{arrivingStep}
-use Rattle.walk.proofs.Answers.{not-past-limit}
-use Rattle.host_records.proofs.Laws.{Going, going-start, going-fits, going-next, going-nothing, going-full}
+use Rattle.walk.specs.Told.{stepOn}
+use Rattle.host_records.proofs.Laws.{Going, going-start, going-fits, going-next, going-ends, going-full}
 use borrow.Author.Needs.{needs}
-use Rattle.host_records.proofs.put_arriving.Statement.{statement}
-use Rattle.host_records.proofs.put_arriving.Tie as tie
+use Rattle.host_records.proofs.put_records.Statement.{statement}
+use Rattle.host_records.proofs.put_records.Tie as tie
 
 abbrev Inv-loop : tie.InvT-loop
-Inv-loop a limit at records₀ left₀ count₀ next₀ records left count next = Going (arrivingStep limit a) records₀ at records left count next
+Inv-loop s way at records₀ left₀ count₀ next₀ records left count next = Going (stepOn way s) records₀ at records left count next
 
 abbrev μ-loop : tie.MeasureT-loop
-μ-loop a limit at records₀ left₀ count₀ next₀ records left count next = left
+μ-loop s way at records₀ left₀ count₀ next₀ records left count next = left
 
 loop-holds : tie.Need-loop-holds Inv-loop μ-loop
 loop-holds c = going-start _ _ _
 
-arrive-requires : tie.Need-arrive-requires Inv-loop μ-loop
-arrive-requires c κs = search needs
+on-requires : tie.Need-on-requires Inv-loop μ-loop
+on-requires c κs = search needs
 
 enum-known-t : tie.Need-enum-known-t Inv-loop μ-loop
 enum-known-t c = search needs
@@ -27,7 +26,7 @@ same-length : tie.Need-same-length Inv-loop μ-loop
 same-length c = c .before .before .before .before .before .loop .inv .same
 
 returns : tie.Need-returns Inv-loop μ-loop
-returns c = going-nothing _ _ _ _ _ _ _ _ (c .before .before .before .before .before .loop .inv) (omega arith) (rw (c .before .t .given .1) at (c .before .before .before .arrive .ensures))
+returns c = going-ends _ _ _ _ _ _ _ _ _ (c .before .before .before .before .before .loop .inv) (omega arith) (rw (c .before .t .given .1) at (c .before .before .before .on .ensures)) refl
 
 enum-told : tie.Need-enum-told Inv-loop μ-loop
 enum-told c = search needs
@@ -36,7 +35,7 @@ same-length-2 : tie.Need-same-length-2 Inv-loop μ-loop
 same-length-2 c = c .before .before .before .before .loop .inv .same
 
 returns-2 : tie.Need-returns-2 Inv-loop μ-loop
-returns-2 c = absurd (not-past-limit _ _ _ (omega arith) _ _ (sym (rw (c .enum-told .given .1) at (c .before .before .arrive .ensures))))
+returns-2 c = going-ends _ _ _ _ _ _ _ _ _ (c .before .before .before .before .loop .inv) (omega arith) (rw (c .enum-told .given .1) at (c .before .before .on .ensures)) refl
 
 enum-known-t-2 : tie.Need-enum-known-t-2 Inv-loop μ-loop
 enum-known-t-2 c = search needs
@@ -59,7 +58,7 @@ loop-less : tie.Need-loop-less Inv-loop μ-loop
 loop-less c = search needs
 
 loop-again : tie.Need-loop-again Inv-loop μ-loop
-loop-again c = let m = c .before .before .before .before .before in rw (c .before .before .put-record .ensures) (going-next _ _ _ _ _ _ _ _ _ (m .before .before .before .before .loop .inv) (omega arith) (rw (m .t2 .given .1) at (m .before .before .arrive .ensures)))
+loop-again c = let m = c .before .before .before .before .before in rw (c .before .before .put-record .ensures) (going-next _ _ _ _ _ _ _ _ _ (m .before .before .before .before .loop .inv) (omega arith) (rw (m .t2 .given .1) at (m .before .before .on .ensures)))
 
 same-length-3 : tie.Need-same-length-3 Inv-loop μ-loop
 same-length-3 c = c .before .loop .inv .same
@@ -67,14 +66,14 @@ same-length-3 c = c .before .loop .inv .same
 returns-3 : tie.Need-returns-3 Inv-loop μ-loop
 returns-3 c = going-full _ _ _ _ _ _ _ (c .before .loop .inv) (omega arith)
 
-pub put-arriving-spec : {M : Type 1} → statement M
-put-arriving-spec =
+pub put-records-spec : {M : Type 1} → statement M
+put-records-spec =
     tie.close
     (tie.spec
     Inv-loop
     μ-loop
     loop-holds
-    arrive-requires
+    on-requires
     enum-known-t
     same-length
     returns
