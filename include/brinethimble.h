@@ -25,6 +25,13 @@
 extern "C" {
 #endif
 
+/* ---- The header itself ----------------------------------------------------------------------------------------------- */
+
+/* Which header this is. A host is built with the header of the library that it links: a call writes as many places as its own
+ * header says. In 2 the arrays are longer than in the first one: a length has its form, a record also the bytes that were
+ * passed before it, and steps take and hand back the place where walking last went on. */
+#define BRINE_HEADER 2
+
 /* ---- Status: what a call returns ------------------------------------------------------------------------------------- */
 
 /* Done. "Nothing found", "over" and "waits" are answers, too, and have this number. */
@@ -117,10 +124,14 @@ size_t brine_next_key(const uint8_t *s, size_t s_len, size_t end, size_t from);
 
 /* ---- The walk: records of a file ------------------------------------------------------------------------------------- */
 
-/* A step of the finished walk of s with an end, from a cursor; the first cursor is 0.
+/* A cursor is two places: `at`, where the walk stands, and `since`, where walking last went on. The first are 0 and 0. What was
+ * passed before a record are the bytes from `since` to its place. Behind a record walking goes on at its value's end. A `since`
+ * past `at` counts as `at`.
+ *
+ * A step of the finished walk of s with an end, from a cursor.
  * out: found, record's place (its 16 label bytes start there), value's place, value's length, next cursor, bytes of its length
- * field, shortest (1) or not (0): as brine_length.
- * BRINE_NOTHING: the walk is over, and the next cursor is where.
+ * field, shortest (1) or not (0): as brine_length; bytes passed before the record, next cursor's `since`.
+ * BRINE_NOTHING: the walk is over, and the next cursor is where; its `since` is the one handed in, at most `at`.
  * An empty value may begin past the end. Status: BRINE_DONE, BRINE_END_PAST_BUFFER. */
 #define BRINE_RECORD_FOUND 0
 #define BRINE_RECORD_PLACE 1
@@ -129,35 +140,40 @@ size_t brine_next_key(const uint8_t *s, size_t s_len, size_t end, size_t from);
 #define BRINE_RECORD_NEXT 4
 #define BRINE_RECORD_LENGTH_BYTES 5
 #define BRINE_RECORD_SHORTEST 6
-#define BRINE_RECORD_PLACES 7
-uint32_t brine_step(const uint8_t *s, size_t s_len, size_t end, size_t at, uint64_t out[BRINE_RECORD_PLACES]);
+#define BRINE_RECORD_PASSED 7
+#define BRINE_RECORD_SINCE 8
+#define BRINE_RECORD_PLACES 9
+uint32_t brine_step(const uint8_t *s, size_t s_len, size_t end, size_t at, size_t since, uint64_t out[BRINE_RECORD_PLACES]);
 
 /* A step of the arriving walk: a is all that has arrived so far of an upload of at most `limit` bytes. A record that is
  * found is in the finished list of every file that starts with these bytes, and no later byte unsays it.
- * out: as brine_step. BRINE_NOTHING: the walk waits; call again from the next cursor when more bytes are in.
+ * out: as brine_step. BRINE_NOTHING: the walk waits; call again from the next cursor, both its places, when more bytes are in.
  * Status: BRINE_DONE, BRINE_PAST_LIMIT. */
-uint32_t brine_arrive(const uint8_t *a, size_t a_len, size_t limit, size_t at, uint64_t out[BRINE_RECORD_PLACES]);
+uint32_t brine_arrive(const uint8_t *a, size_t a_len, size_t limit, size_t at, size_t since, uint64_t out[BRINE_RECORD_PLACES]);
 
 /* Steps of the finished walk until the lent room is full or the walk is over. Each record takes
  * BRINE_BATCH_PLACES places of `records`: its place, its value's place, its value's length, bytes of its length field, shortest
- * (1) or not (0); places past the last record keep their contents.
- * out: how many records were put, next cursor. The walk is over if there was room for more (records_len / BRINE_BATCH_PLACES).
+ * (1) or not (0), bytes passed before it; places past the last record keep their contents.
+ * out: how many records were put, next cursor, its `since`. The walk is over if there was room for more (records_len /
+ * BRINE_BATCH_PLACES).
  * Status: BRINE_DONE, BRINE_END_PAST_BUFFER. */
 #define BRINE_BATCH_PLACE 0
 #define BRINE_BATCH_VALUE 1
 #define BRINE_BATCH_LENGTH 2
 #define BRINE_BATCH_LENGTH_BYTES 3
 #define BRINE_BATCH_SHORTEST 4
-#define BRINE_BATCH_PLACES 5
+#define BRINE_BATCH_PASSED 5
+#define BRINE_BATCH_PLACES 6
 #define BRINE_RECORDS_PUT 0
 #define BRINE_RECORDS_NEXT 1
-#define BRINE_RECORDS_PLACES 2
-uint32_t brine_records(const uint8_t *s, size_t s_len, size_t end, size_t at, uint64_t *records, size_t records_len,
-                       uint64_t out[BRINE_RECORDS_PLACES]);
+#define BRINE_RECORDS_SINCE 2
+#define BRINE_RECORDS_PLACES 3
+uint32_t brine_records(const uint8_t *s, size_t s_len, size_t end, size_t at, size_t since, uint64_t *records,
+                       size_t records_len, uint64_t out[BRINE_RECORDS_PLACES]);
 
 /* The same for the arriving walk. Status: BRINE_DONE, BRINE_PAST_LIMIT. */
-uint32_t brine_arrivals(const uint8_t *a, size_t a_len, size_t limit, size_t at, uint64_t *records, size_t records_len,
-                        uint64_t out[BRINE_RECORDS_PLACES]);
+uint32_t brine_arrivals(const uint8_t *a, size_t a_len, size_t limit, size_t at, size_t since, uint64_t *records,
+                        size_t records_len, uint64_t out[BRINE_RECORDS_PLACES]);
 
 /* The records of the finished walk of all of s, in groups in order of first appearance: each group's first record's place in
  * `firsts`, how many it has in `counts`; places past the last group keep their contents. Records with the same label are in one
@@ -173,14 +189,22 @@ uint32_t brine_tally(const uint8_t *s, size_t s_len, size_t firsts[BRINE_GROUPS]
 
 /* ---- Inside values: runs and local items ----------------------------------------------------------------------------- */
 
-/* A step of a run of KLVs: 16 bytes of any kind, a length, a value.
- * out: as brine_step. BRINE_NOTHING: no whole one is left; the next cursor is the one handed in. */
-uint32_t brine_run(const uint8_t *s, size_t s_len, size_t at, uint64_t out[BRINE_RECORD_PLACES]);
+/* A step of a run of KLVs: 16 bytes of any kind, a length, a value. It searches nothing, so it passes no byte.
+ * out: the first seven of brine_step. BRINE_NOTHING: no whole one is left; the next cursor is the one handed in. */
+#define BRINE_KLV_FOUND 0
+#define BRINE_KLV_PLACE 1
+#define BRINE_KLV_VALUE 2
+#define BRINE_KLV_LENGTH 3
+#define BRINE_KLV_NEXT 4
+#define BRINE_KLV_LENGTH_BYTES 5
+#define BRINE_KLV_SHORTEST 6
+#define BRINE_KLV_PLACES 7
+uint32_t brine_run(const uint8_t *s, size_t s_len, size_t at, uint64_t out[BRINE_KLV_PLACES]);
 
 /* A step over the items of a set: a tag of `tag` bytes, then a BER length (ber) or one of two bytes, then the value.
  * By the set's label byte 5: 53h is (2, false), 13h is (2, true), 43h is (1, false).
  * out: as brine_run; the tag stands at the record's place. A length of two bytes is 2 bytes and shortest. */
-uint32_t brine_item(const uint8_t *s, size_t s_len, size_t tag, bool ber, size_t at, uint64_t out[BRINE_RECORD_PLACES]);
+uint32_t brine_item(const uint8_t *s, size_t s_len, size_t tag, bool ber, size_t at, uint64_t out[BRINE_KLV_PLACES]);
 
 /* ---- Tables ---------------------------------------------------------------------------------------------------------- */
 
@@ -247,10 +271,13 @@ uint32_t brine_descriptor(const uint8_t *s, size_t s_len, uint64_t kind[BRINE_VA
 
 /* ---- Frames ---------------------------------------------------------------------------------------------------------- */
 
-/* A step of a camera's frame walk of s with an end, from a cursor and the next frame's number; the first are 0 and 0.
+/* A step of a camera's frame walk of s with an end, from a cursor (as brine_step's) and the next frame's number; the first are 0,
+ * 0 and 0.
  * out: found, frame's number, element's place, value's place, value's length, over-long (1) or not (0), next cursor, next
- * frame's number. BRINE_NOTHING: over; the next cursor is where, the next number the one handed in.
- * An over-long element (Sony, Canon above 23,723,672 bytes, ARRI above 8,192) is a frame without values.
+ * frame's number, bytes passed before the element, next cursor's `since`. BRINE_NOTHING: over; the next cursor is where, the next
+ * number the one handed in.
+ * An over-long element (Sony, Canon above 23,723,672 bytes, ARRI above 8,192) is a frame without values: walking goes on at its
+ * value's place, and so does the count. A record that is no frame is passed over whole, and walking goes on at its end.
  * Status: BRINE_DONE, BRINE_END_PAST_BUFFER. */
 #define BRINE_ELEMENT_FOUND 0
 #define BRINE_ELEMENT_NUMBER 1
@@ -260,13 +287,15 @@ uint32_t brine_descriptor(const uint8_t *s, size_t s_len, uint64_t kind[BRINE_VA
 #define BRINE_ELEMENT_OVERLONG 5
 #define BRINE_ELEMENT_NEXT 6
 #define BRINE_ELEMENT_NEXT_NUMBER 7
-#define BRINE_ELEMENT_PLACES 8
-uint32_t brine_sony_step(const uint8_t *s, size_t s_len, size_t end, size_t at, uint64_t number,
+#define BRINE_ELEMENT_PASSED 8
+#define BRINE_ELEMENT_SINCE 9
+#define BRINE_ELEMENT_PLACES 10
+uint32_t brine_sony_step(const uint8_t *s, size_t s_len, size_t end, size_t at, size_t since, uint64_t number,
                          uint64_t out[BRINE_ELEMENT_PLACES]);
-uint32_t brine_arri_step(const uint8_t *s, size_t s_len, size_t end, size_t at, uint64_t number,
+uint32_t brine_arri_step(const uint8_t *s, size_t s_len, size_t end, size_t at, size_t since, uint64_t number,
                          uint64_t out[BRINE_ELEMENT_PLACES]);
 /* Canon's is Sony's, and gives the values of Canon's two labels besides: found is BRINE_GIVEN, the number 0. */
-uint32_t brine_canon_step(const uint8_t *s, size_t s_len, size_t end, size_t at, uint64_t number,
+uint32_t brine_canon_step(const uint8_t *s, size_t s_len, size_t end, size_t at, size_t since, uint64_t number,
                           uint64_t out[BRINE_ELEMENT_PLACES]);
 
 /* ---- Frame values ---------------------------------------------------------------------------------------------------- */

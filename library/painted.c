@@ -13,7 +13,7 @@
 #define PAINT 0xa5
 
 static uint8_t bytes[BYTES], other[BYTES], payload[BYTES];
-static uint64_t records[BRINE_BATCH_PLACES * 4096], out[8], kind[BRINE_VALUES], bits[BRINE_VALUES], frame[4];
+static uint64_t records[BRINE_BATCH_PLACES * 4096], out[BRINE_ELEMENT_PLACES], kind[BRINE_VALUES], bits[BRINE_VALUES], frame[4];
 static size_t firsts[64], counts[64];
 static int64_t positions[2];
 static volatile uint64_t sink;
@@ -28,10 +28,10 @@ static void do_nothing(void) { sink = nothing(bytes, BYTES, BYTES, 0, out); }
 static void do_length(void) { sink = brine_length(bytes, BYTES, 16, out); }
 static void do_same_label(void) { sink = brine_same_label(bytes, 16, other, 16); }
 static void do_next_key(void) { sink = brine_next_key(bytes, BYTES, BYTES, 1); }
-static void do_step(void) { sink = brine_step(bytes, BYTES, BYTES, 0, out); }
-static void do_arrive(void) { sink = brine_arrive(bytes, BYTES, SIZE_MAX, 0, out); }
-static void do_records(void) { sink = brine_records(bytes, BYTES, BYTES, 0, records, BRINE_BATCH_PLACES * 4096, out); }
-static void do_arrivals(void) { sink = brine_arrivals(bytes, BYTES, BYTES, 0, records, BRINE_BATCH_PLACES * 4096, out); }
+static void do_step(void) { sink = brine_step(bytes, BYTES, BYTES, 0, 0, out); }
+static void do_arrive(void) { sink = brine_arrive(bytes, BYTES, SIZE_MAX, 0, 0, out); }
+static void do_records(void) { sink = brine_records(bytes, BYTES, BYTES, 0, 0, records, BRINE_BATCH_PLACES * 4096, out); }
+static void do_arrivals(void) { sink = brine_arrivals(bytes, BYTES, BYTES, 0, 0, records, BRINE_BATCH_PLACES * 4096, out); }
 static void do_tally(void) { sink = brine_tally(bytes, BYTES, firsts, counts, out); }
 static void do_run(void) { sink = brine_run(bytes, BYTES, 0, out); }
 static void do_item(void) { sink = brine_item(bytes, BYTES, 2, true, 0, out); }
@@ -41,9 +41,9 @@ static void do_arri_block(void) { sink = brine_arri_block(bytes, BYTES, out); }
 static void do_payload(void) { sink = brine_payload(bytes, BYTES, payload, BYTES, out); }
 static void do_line(void) { sink = brine_line(bytes, BYTES, 2, 65535, out); }
 static void do_descriptor(void) { sink = brine_descriptor(bytes, BYTES, kind, bits); }
-static void do_sony_step(void) { sink = brine_sony_step(bytes, BYTES, BYTES, 0, 0, out); }
-static void do_arri_step(void) { sink = brine_arri_step(bytes, BYTES, BYTES, 0, 0, out); }
-static void do_canon_step(void) { sink = brine_canon_step(bytes, BYTES, BYTES, 0, 0, out); }
+static void do_sony_step(void) { sink = brine_sony_step(bytes, BYTES, BYTES, 0, 0, 0, out); }
+static void do_arri_step(void) { sink = brine_arri_step(bytes, BYTES, BYTES, 0, 0, 0, out); }
+static void do_canon_step(void) { sink = brine_canon_step(bytes, BYTES, BYTES, 0, 0, 0, out); }
 static void do_of_dynamic(void) { sink = brine_of_dynamic(bytes, 256, kind, bits); }
 static void do_of_alexa35(void) { sink = brine_of_alexa35(bytes, BYTES, kind, bits); }
 static void do_arri_values(void) { sink = brine_arri_values(bytes, BYTES, frame, out, kind, bits); }

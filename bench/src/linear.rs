@@ -40,13 +40,14 @@ fn long_values(apart: usize, count: usize) -> Vec<u8> {
 /// The records that are certain by the end of an upload, and where it then waits, as one number: after each piece the walk
 /// goes on from its cursor.
 fn walk(upload: &[u8], piece: usize, limit: usize) -> u64 {
-    let (mut at, mut records) = (0, 0);
-    let mut arrived = 0;
+    let (mut at, mut since, mut records) = (0, 0, 0);
+    let (mut arrived, mut out) = (0, port::Stepped::default());
     while arrived < upload.len() {
         arrived = upload.len().min(arrived + piece);
         loop {
-            let [found, _, _, _, next, ..] = port::arrive(&upload[..arrived], limit, at);
-            at = next as usize;
+            port::arrive(&upload[..arrived], limit, at, since, &mut out);
+            let [found, _, _, _, next, .., gone_on] = out;
+            (at, since) = (next as usize, gone_on as usize);
             if found == 0 {
                 break;
             }

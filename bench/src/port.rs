@@ -8,18 +8,17 @@ pub fn next_key(s: &[u8], from: usize) -> usize {
     unsafe { brine_next_key(s.as_ptr(), s.len(), s.len(), from) }
 }
 
-/// What a step of the finished walk of all of s writes out.
-pub fn step(s: &[u8], at: usize) -> [u64; 7] {
-    let mut out = [0; 7];
-    unsafe { brine_step(s.as_ptr(), s.len(), s.len(), at, &mut out) };
-    out
+/// What a walk's step writes: found, place, value's place and length, next cursor, the length's form, passed, since.
+pub type Stepped = [u64; 9];
+
+/// A step of the finished walk of all of s, into lent places.
+pub fn step(s: &[u8], at: usize, since: usize, out: &mut Stepped) {
+    unsafe { brine_step(s.as_ptr(), s.len(), s.len(), at, since, out) };
 }
 
-/// What a step of the arriving walk writes out.
-pub fn arrive(a: &[u8], limit: usize, at: usize) -> [u64; 7] {
-    let mut out = [0; 7];
-    unsafe { brine_arrive(a.as_ptr(), a.len(), limit, at, &mut out) };
-    out
+/// A step of the arriving walk, into lent places.
+pub fn arrive(a: &[u8], limit: usize, at: usize, since: usize, out: &mut Stepped) {
+    unsafe { brine_arrive(a.as_ptr(), a.len(), limit, at, since, out) };
 }
 
 /// What a step of a run writes out.
@@ -119,11 +118,11 @@ pub fn camera_fields(s: &[u8]) -> u64 {
 }
 
 /// The places of a record in lent room.
-pub const EACH: usize = 5;
+pub const EACH: usize = 6;
 
-/// Puts records of the finished walk of all of s into lent room, `EACH` places each: how many, and the next cursor.
-pub fn records(s: &[u8], at: usize, room: &mut [u64]) -> [u64; 2] {
-    let mut out = [0; 2];
-    unsafe { brine_records(s.as_ptr(), s.len(), s.len(), at, room.as_mut_ptr(), room.len(), &mut out) };
+/// Puts records of the finished walk of all of s into lent room, `EACH` places each: how many, the next cursor and its `since`.
+pub fn records(s: &[u8], at: usize, since: usize, room: &mut [u64]) -> [u64; 3] {
+    let mut out = [0; 3];
+    unsafe { brine_records(s.as_ptr(), s.len(), s.len(), at, since, room.as_mut_ptr(), room.len(), &mut out) };
     out
 }

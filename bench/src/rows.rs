@@ -107,14 +107,16 @@ fn near_keys(rows: &mut Vec<Row>) {
 
 /// The records of a walk, one exported call a record, as a sum over their values' places and lengths.
 fn walk(s: &[u8]) -> u64 {
-    let (mut at, mut sum) = (0, 0u64);
+    let (mut at, mut since, mut sum) = (0, 0, 0u64);
+    let mut out = port::Stepped::default();
     loop {
-        let [found, _, value, length, next, ..] = port::step(s, at);
+        port::step(s, at, since, &mut out);
+        let [found, _, value, length, next, .., gone_on] = out;
         if found == 0 {
             return sum;
         }
         sum = sum.wrapping_mul(31).wrapping_add(length ^ value);
-        at = next as usize;
+        (at, since) = (next as usize, gone_on as usize);
     }
 }
 
@@ -147,17 +149,17 @@ fn walks(rows: &mut Vec<Row>) {
 
 /// The same sum, by exported calls that put up to 1,000 records each.
 fn batch_walk(s: &[u8]) -> u64 {
-    let (mut at, mut sum) = (0, 0u64);
+    let (mut at, mut since, mut sum) = (0, 0, 0u64);
     let mut room = [0; 1000 * port::EACH];
     loop {
-        let [count, next] = port::records(s, at, &mut room);
+        let [count, next, gone_on] = port::records(s, at, since, &mut room);
         for record in room.chunks_exact(port::EACH).take(count as usize) {
             sum = sum.wrapping_mul(31).wrapping_add(record[2] ^ record[1]);
         }
         if (count as usize) < room.len() / port::EACH {
             return sum;
         }
-        at = next as usize;
+        (at, since) = (next as usize, gone_on as usize);
     }
 }
 

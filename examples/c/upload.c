@@ -14,17 +14,19 @@ static void say_record(struct upload *u, const uint64_t out[BRINE_RECORD_PLACES]
 {
     char label[33];
     for (size_t i = 0; i < 16; i++)
-        snprintf(label + 2 * i, 3, "%02x", u->bytes[out[1] + i]);
-    printf("%s record %" PRIu64 " %s %" PRIu64 " %" PRIu64 "\n", u->id, out[1], label, out[2], out[3]);
+        snprintf(label + 2 * i, 3, "%02x", u->bytes[out[BRINE_RECORD_PLACE] + i]);
+    printf("%s record %" PRIu64 " %s %" PRIu64 " %" PRIu64 " %" PRIu64 "\n", u->id, out[BRINE_RECORD_PLACE], label,
+           out[BRINE_RECORD_VALUE], out[BRINE_RECORD_LENGTH], out[BRINE_RECORD_PASSED]);
     u->records++;
 }
 
 /* Says a frame that a camera's step found, in one line though other uploads speak, too. */
-static void say_frame(const struct upload *u, const struct camera *c, const uint64_t out[8])
+static void say_frame(const struct upload *u, const struct camera *c, const uint64_t out[BRINE_ELEMENT_PLACES])
 {
     flockfile(stdout);
-    printf("%s frame %s %" PRIu64 " %" PRIu64 " %" PRIu64 " %" PRIu64, u->id, c->name, out[1], out[2], out[3], out[4]);
-    if (out[5] == 1)
+    printf("%s frame %s %" PRIu64 " %" PRIu64 " %" PRIu64 " %" PRIu64 " %" PRIu64, u->id, c->name, out[BRINE_ELEMENT_NUMBER],
+           out[BRINE_ELEMENT_PLACE], out[BRINE_ELEMENT_VALUE], out[BRINE_ELEMENT_LENGTH], out[BRINE_ELEMENT_PASSED]);
+    if (out[BRINE_ELEMENT_OVERLONG] == 1)
         printf(" over-long");
     else
         c->tell(u, out);
@@ -33,11 +35,12 @@ static void say_frame(const struct upload *u, const struct camera *c, const uint
 }
 
 /* Tells how long the payload of a Sony frame is; what there is no room for is refused with the length that it needs. */
-static void tell_payload(const struct upload *u, const uint64_t frame[8])
+static void tell_payload(const struct upload *u, const uint64_t frame[BRINE_ELEMENT_PLACES])
 {
     uint8_t payload[PAYLOAD_ROOM];
     uint64_t length;
-    uint32_t status = brine_payload(u->bytes + frame[3], frame[4], payload, sizeof payload, &length);
+    const uint8_t *element = u->bytes + frame[BRINE_ELEMENT_VALUE];
+    uint32_t status = brine_payload(element, frame[BRINE_ELEMENT_LENGTH], payload, sizeof payload, &length);
     printf(" payload %" PRIu64 "%s", length, status == BRINE_NO_ROOM ? " refused 3" : "");
 }
 
@@ -54,7 +57,7 @@ static void tell_value(const char *name, uint64_t kind, uint64_t bits)
 }
 
 /* Tells the lens, focus, exposure and tilt of an ARRI frame, what there is of them. */
-static void tell_values(const struct upload *u, const uint64_t frame[8])
+static void tell_values(const struct upload *u, const uint64_t frame[BRINE_ELEMENT_PLACES])
 {
     static const char *const names[BRINE_VALUES] = {
         [BRINE_FRAME_FOCAL_LENGTH] = "focal", [BRINE_FRAME_FOCUS_DISTANCE] = "focus", [BRINE_FRAME_T_STOP] = "stop",
@@ -62,7 +65,7 @@ static void tell_values(const struct upload *u, const uint64_t frame[8])
         [BRINE_FRAME_ROLL] = "roll", [BRINE_FRAME_EXPOSURE_INDEX] = "index", [BRINE_FRAME_WHITE_BALANCE] = "balance",
     };
     uint64_t found, kind[BRINE_VALUES], bits[BRINE_VALUES];
-    brine_arri_values(u->bytes, u->arrived, frame + 2, &found, kind, bits);
+    brine_arri_values(u->bytes, u->arrived, frame + BRINE_ELEMENT_PLACE, &found, kind, bits);
     if (found == BRINE_NOTHING)
         printf(" no values");
     for (int i = 0; i < BRINE_VALUES; i++)
@@ -108,29 +111,47 @@ static uint32_t follow_records(struct upload *u)
 {
     uint64_t out[BRINE_RECORD_PLACES];
     do {
-        uint32_t status = brine_arrive(u->bytes, u->arrived, u->limit, u->at, out);
+        uint32_t status = brine_arrive(u->bytes, u->arrived, u->limit, u->at, u->since, out);
         if (status != BRINE_DONE)
             return status;
-        u->at = out[4];
-        if (out[0] == BRINE_FOUND)
+        u->at = out[BRINE_RECORD_NEXT];
+        u->since = out[BRINE_RECORD_SINCE];
+        if (out[BRINE_RECORD_FOUND] == BRINE_FOUND)
             say_record(u, out);
-    } while (out[0] == BRINE_FOUND);
+    } while (out[BRINE_RECORD_FOUND] == BRINE_FOUND);
     return BRINE_DONE;
+}
+
+/* Whether a camera's step up to an end, from a cursor, finds a frame. */
+static bool next_frame(const struct upload *u, const struct camera *c, size_t end, size_t at, size_t since,
+                       uint64_t frame[BRINE_ELEMENT_PLACES])
+{
+    uint32_t status = c->step(u->bytes, u->arrived, end, at, since, c->number, frame);
+    return status == BRINE_DONE && frame[BRINE_ELEMENT_FOUND] == BRINE_FOUND;
+}
+
+/* Moves a camera's cursor behind a frame. */
+static void go_on(struct camera *c, const uint64_t frame[BRINE_ELEMENT_PLACES])
+{
+    c->at = frame[BRINE_ELEMENT_NEXT];
+    c->since = frame[BRINE_ELEMENT_SINCE];
+    c->number = frame[BRINE_ELEMENT_NEXT_NUMBER];
 }
 
 /* Says the frames that have become certain: of each record of the camera's own walk, the frame that it alone is. */
 static void follow_frames(struct upload *u, struct camera *c)
 {
     uint64_t record[BRINE_RECORD_PLACES], frame[BRINE_ELEMENT_PLACES];
-    while (brine_arrive(u->bytes, u->arrived, u->limit, c->at, record) == BRINE_DONE) {
-        c->at = record[4];
-        if (record[0] == BRINE_NOTHING)
+    while (brine_arrive(u->bytes, u->arrived, u->limit, c->at, c->since, record) == BRINE_DONE) {
+        size_t place = record[BRINE_RECORD_PLACE], since = place - record[BRINE_RECORD_PASSED];
+        c->at = record[BRINE_RECORD_NEXT];
+        c->since = record[BRINE_RECORD_SINCE];
+        if (record[BRINE_RECORD_FOUND] == BRINE_NOTHING)
             return;
-        if (c->step(u->bytes, u->arrived, record[4], record[1], c->number, frame) != BRINE_DONE || frame[0] == BRINE_NOTHING)
+        if (!next_frame(u, c, c->at, place, since, frame))
             continue;
         say_frame(u, c, frame);
-        c->at = frame[6];
-        c->number = frame[7];
+        go_on(c, frame);
     }
 }
 
@@ -165,15 +186,16 @@ void upload_waits(const struct upload *u)
 void upload_finish(struct upload *u)
 {
     uint64_t record[BRINE_RECORD_PLACES], frame[BRINE_ELEMENT_PLACES], frames = 0;
-    while (brine_step(u->bytes, u->arrived, u->arrived, u->at, record) == BRINE_DONE && record[0] == BRINE_FOUND) {
-        u->at = record[4];
+    while (brine_step(u->bytes, u->arrived, u->arrived, u->at, u->since, record) == BRINE_DONE
+           && record[BRINE_RECORD_FOUND] == BRINE_FOUND) {
+        u->at = record[BRINE_RECORD_NEXT];
+        u->since = record[BRINE_RECORD_SINCE];
         say_record(u, record);
     }
     for (struct camera *c = u->cameras; c < u->cameras + CAMERAS; c++) {
-        while (c->step(u->bytes, u->arrived, u->arrived, c->at, c->number, frame) == BRINE_DONE && frame[0] == BRINE_FOUND) {
+        while (next_frame(u, c, u->arrived, c->at, c->since, frame)) {
             say_frame(u, c, frame);
-            c->at = frame[6];
-            c->number = frame[7];
+            go_on(c, frame);
         }
         frames += c->number;
     }

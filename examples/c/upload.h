@@ -3,12 +3,13 @@
  * cursor of its own.
  *
  * What is said of an upload, a line each, as soon as it is certain:
- *   ID record PLACE LABEL VALUE LENGTH
- *   ID frame sony NUMBER PLACE VALUE LENGTH, then the payload's length, or over-long
- *   ID frame arri NUMBER PLACE VALUE LENGTH, then the frame's values, or over-long
+ *   ID record PLACE LABEL VALUE LENGTH PASSED
+ *   ID frame sony NUMBER PLACE VALUE LENGTH PASSED, then the payload's length, or over-long
+ *   ID frame arri NUMBER PLACE VALUE LENGTH PASSED, then the frame's values, or over-long
  *   ID waits PLACE ARRIVED
  *   ID refused STATUS, or ID no memory
- *   ID records N frames M */
+ *   ID records N frames M
+ * PASSED is how many bytes were lost before a record or a frame. */
 #ifndef UPLOAD_H
 #define UPLOAD_H
 
@@ -22,9 +23,10 @@ struct upload;
 /* A camera's frame walk: its name, its step, what is said of its frames, its cursor and the next frame's number. */
 struct camera {
     const char *name;
-    uint32_t (*step)(const uint8_t *s, size_t s_len, size_t end, size_t at, uint64_t number, uint64_t out[8]);
-    void (*tell)(const struct upload *u, const uint64_t frame[8]);
-    size_t at;
+    uint32_t (*step)(const uint8_t *s, size_t s_len, size_t end, size_t at, size_t since, uint64_t number,
+                     uint64_t out[BRINE_ELEMENT_PLACES]);
+    void (*tell)(const struct upload *u, const uint64_t frame[BRINE_ELEMENT_PLACES]);
+    size_t at, since;
     uint64_t number;
 };
 
@@ -35,7 +37,7 @@ struct upload {
     uint8_t *bytes;
     size_t arrived;
     size_t room;
-    size_t at;
+    size_t at, since;
     uint64_t records;
     struct camera cameras[CAMERAS];
 };

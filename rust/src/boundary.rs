@@ -3,15 +3,21 @@
 //! an array has the number of places that the call writes.
 
 use crate::Refusal;
+use crate::frames::FrameCursor;
 use crate::places::{KIND_F32, KIND_F64, KIND_WHOLE, VALUES};
+use crate::walk::Cursor;
 
 /// The library is for 64-bit machines: a place that it answers is a `usize`.
 const _: () = assert!(usize::BITS == 64);
 
-/// What a step wrote: found, place, value's place, value's length, next cursor, bytes of the length field, shortest or not.
-pub type Stepped = [u64; 7];
-/// What a step of a frame walk wrote: found, number, place, value's place, value's length, over-long, next cursor, next number.
-pub type Framed = [u64; 8];
+/// What a step of a walk wrote: found, place, value's place, value's length, next cursor, bytes of the length field, shortest or
+/// not, bytes passed, next cursor's `since`.
+pub type Stepped = [u64; 9];
+/// What a step of a run or over items wrote: the first seven of these.
+pub type Inside = [u64; 7];
+/// What a step of a frame walk wrote: found, number, place, value's place, value's length, over-long, next cursor, next number,
+/// bytes passed, next cursor's `since`.
+pub type Framed = [u64; 10];
 
 /// A list of values as the library writes them: what each is, and its bits.
 #[derive(Default)]
@@ -79,30 +85,32 @@ pub fn next_key(s: &[u8], end: usize, from: usize) -> usize {
 }
 
 /// `brine_step`.
-pub fn step(s: &[u8], end: usize, at: usize) -> Result<Stepped, Refusal> {
-    let mut out = [0; 7];
-    let status = unsafe { brine_step(s.as_ptr(), s.len(), end, at, &mut out) };
+pub fn step(s: &[u8], end: usize, Cursor { at, since }: Cursor) -> Result<Stepped, Refusal> {
+    let mut out = [0; 9];
+    let status = unsafe { brine_step(s.as_ptr(), s.len(), end, at, since, &mut out) };
     answered(status, 0, out)
 }
 
 /// `brine_arrive`.
-pub fn arrive(a: &[u8], limit: usize, at: usize) -> Result<Stepped, Refusal> {
-    let mut out = [0; 7];
-    let status = unsafe { brine_arrive(a.as_ptr(), a.len(), limit, at, &mut out) };
+pub fn arrive(a: &[u8], limit: usize, Cursor { at, since }: Cursor) -> Result<Stepped, Refusal> {
+    let mut out = [0; 9];
+    let status = unsafe { brine_arrive(a.as_ptr(), a.len(), limit, at, since, &mut out) };
     answered(status, 0, out)
 }
 
-/// `brine_records`: how many were put, next cursor.
-pub fn records(s: &[u8], end: usize, at: usize, records: &mut [u64]) -> Result<[u64; 2], Refusal> {
-    let mut out = [0; 2];
-    let status = unsafe { brine_records(s.as_ptr(), s.len(), end, at, records.as_mut_ptr(), records.len(), &mut out) };
+/// `brine_records`: how many were put, next cursor, its `since`.
+pub fn records(s: &[u8], end: usize, Cursor { at, since }: Cursor, records: &mut [u64]) -> Result<[u64; 3], Refusal> {
+    let mut out = [0; 3];
+    let (room, places) = (records.as_mut_ptr(), records.len());
+    let status = unsafe { brine_records(s.as_ptr(), s.len(), end, at, since, room, places, &mut out) };
     answered(status, 0, out)
 }
 
-/// `brine_arrivals`: how many were put, next cursor.
-pub fn arrivals(a: &[u8], limit: usize, at: usize, records: &mut [u64]) -> Result<[u64; 2], Refusal> {
-    let mut out = [0; 2];
-    let status = unsafe { brine_arrivals(a.as_ptr(), a.len(), limit, at, records.as_mut_ptr(), records.len(), &mut out) };
+/// `brine_arrivals`: how many were put, next cursor, its `since`.
+pub fn arrivals(a: &[u8], limit: usize, Cursor { at, since }: Cursor, records: &mut [u64]) -> Result<[u64; 3], Refusal> {
+    let mut out = [0; 3];
+    let (room, places) = (records.as_mut_ptr(), records.len());
+    let status = unsafe { brine_arrivals(a.as_ptr(), a.len(), limit, at, since, room, places, &mut out) };
     answered(status, 0, out)
 }
 
@@ -114,14 +122,14 @@ pub fn tally(s: &[u8], firsts: &mut [usize; 64], counts: &mut [usize; 64]) -> [u
 }
 
 /// `brine_run`.
-pub fn run(s: &[u8], at: usize) -> Stepped {
+pub fn run(s: &[u8], at: usize) -> Inside {
     let mut out = [0; 7];
     unsafe { brine_run(s.as_ptr(), s.len(), at, &mut out) };
     out
 }
 
 /// `brine_item`.
-pub fn item(s: &[u8], tag: usize, ber: bool, at: usize) -> Stepped {
+pub fn item(s: &[u8], tag: usize, ber: bool, at: usize) -> Inside {
     let mut out = [0; 7];
     unsafe { brine_item(s.as_ptr(), s.len(), tag, ber, at, &mut out) };
     out
@@ -170,23 +178,23 @@ pub fn descriptor(s: &[u8]) -> Result<Values, Refusal> {
 }
 
 /// `brine_sony_step`.
-pub fn sony_step(s: &[u8], end: usize, at: usize, number: u64) -> Result<Framed, Refusal> {
-    let mut out = [0; 8];
-    let status = unsafe { brine_sony_step(s.as_ptr(), s.len(), end, at, number, &mut out) };
+pub fn sony_step(s: &[u8], end: usize, FrameCursor { at, since, number }: FrameCursor) -> Result<Framed, Refusal> {
+    let mut out = [0; 10];
+    let status = unsafe { brine_sony_step(s.as_ptr(), s.len(), end, at, since, number, &mut out) };
     answered(status, 0, out)
 }
 
 /// `brine_arri_step`.
-pub fn arri_step(s: &[u8], end: usize, at: usize, number: u64) -> Result<Framed, Refusal> {
-    let mut out = [0; 8];
-    let status = unsafe { brine_arri_step(s.as_ptr(), s.len(), end, at, number, &mut out) };
+pub fn arri_step(s: &[u8], end: usize, FrameCursor { at, since, number }: FrameCursor) -> Result<Framed, Refusal> {
+    let mut out = [0; 10];
+    let status = unsafe { brine_arri_step(s.as_ptr(), s.len(), end, at, since, number, &mut out) };
     answered(status, 0, out)
 }
 
 /// `brine_canon_step`.
-pub fn canon_step(s: &[u8], end: usize, at: usize, number: u64) -> Result<Framed, Refusal> {
-    let mut out = [0; 8];
-    let status = unsafe { brine_canon_step(s.as_ptr(), s.len(), end, at, number, &mut out) };
+pub fn canon_step(s: &[u8], end: usize, FrameCursor { at, since, number }: FrameCursor) -> Result<Framed, Refusal> {
+    let mut out = [0; 10];
+    let status = unsafe { brine_canon_step(s.as_ptr(), s.len(), end, at, since, number, &mut out) };
     answered(status, 0, out)
 }
 

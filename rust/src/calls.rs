@@ -4,13 +4,13 @@ unsafe extern "C" {
     fn brine_length(s: *const u8, s_len: usize, at: usize, out: &mut [u64; 4]) -> u32;
     fn brine_same_label(a: *const u8, a_len: usize, b: *const u8, b_len: usize) -> bool;
     fn brine_next_key(s: *const u8, s_len: usize, end: usize, from: usize) -> usize;
-    fn brine_step(s: *const u8, s_len: usize, end: usize, at: usize, out: &mut [u64; 7]) -> u32;
-    fn brine_arrive(a: *const u8, a_len: usize, limit: usize, at: usize, out: &mut [u64; 7]) -> u32;
+    fn brine_step(s: *const u8, s_len: usize, end: usize, at: usize, since: usize, out: &mut [u64; 9]) -> u32;
+    fn brine_arrive(a: *const u8, a_len: usize, limit: usize, at: usize, since: usize, out: &mut [u64; 9]) -> u32;
     fn brine_records(
-        s: *const u8, s_len: usize, end: usize, at: usize, records: *mut u64, records_len: usize, out: &mut [u64; 2],
+        s: *const u8, s_len: usize, end: usize, at: usize, since: usize, records: *mut u64, records_len: usize, out: &mut [u64; 3],
     ) -> u32;
     fn brine_arrivals(
-        a: *const u8, a_len: usize, limit: usize, at: usize, records: *mut u64, records_len: usize, out: &mut [u64; 2],
+        a: *const u8, a_len: usize, limit: usize, at: usize, since: usize, records: *mut u64, records_len: usize, out: &mut [u64; 3],
     ) -> u32;
     fn brine_tally(s: *const u8, s_len: usize, firsts: &mut [usize; 64], counts: &mut [usize; 64], out: &mut [u64; 2]) -> u32;
     fn brine_run(s: *const u8, s_len: usize, at: usize, out: &mut [u64; 7]) -> u32;
@@ -21,9 +21,9 @@ unsafe extern "C" {
     fn brine_payload(element: *const u8, element_len: usize, payload: *mut u8, payload_len: usize, out: &mut [u64; 1]) -> u32;
     fn brine_line(element: *const u8, element_len: usize, at: usize, left: usize, out: &mut [u64; 5]) -> u32;
     fn brine_descriptor(s: *const u8, s_len: usize, kind: &mut [u64; 32], bits: &mut [u64; 32]) -> u32;
-    fn brine_sony_step(s: *const u8, s_len: usize, end: usize, at: usize, number: u64, out: &mut [u64; 8]) -> u32;
-    fn brine_arri_step(s: *const u8, s_len: usize, end: usize, at: usize, number: u64, out: &mut [u64; 8]) -> u32;
-    fn brine_canon_step(s: *const u8, s_len: usize, end: usize, at: usize, number: u64, out: &mut [u64; 8]) -> u32;
+    fn brine_sony_step(s: *const u8, s_len: usize, end: usize, at: usize, since: usize, number: u64, out: &mut [u64; 10]) -> u32;
+    fn brine_arri_step(s: *const u8, s_len: usize, end: usize, at: usize, since: usize, number: u64, out: &mut [u64; 10]) -> u32;
+    fn brine_canon_step(s: *const u8, s_len: usize, end: usize, at: usize, since: usize, number: u64, out: &mut [u64; 10]) -> u32;
     fn brine_of_dynamic(block: *const u8, block_len: usize, kind: &mut [u64; 32], bits: &mut [u64; 32]) -> u32;
     fn brine_of_alexa35(element: *const u8, element_len: usize, kind: &mut [u64; 32], bits: &mut [u64; 32]) -> u32;
     fn brine_arri_values(

@@ -41,7 +41,7 @@ impl<'a> Iterator for Packages<'a> {
     fn next(&mut self) -> Option<Record<'a>> {
         let [found, place, value, length, from, end] = boundary::package(self.set, self.from, self.end);
         (self.from, self.end) = (from as usize, end as usize);
-        (found == 1).then(|| Record::at(self.set, [place, value, length]))
+        (found == 1).then(|| Record::at(self.set, [place, value, length], 0))
     }
 }
 

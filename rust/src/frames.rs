@@ -36,31 +36,53 @@ pub enum CanonItem<'a> {
     Given(Record<'a>),
 }
 
-/// A camera's step over a buffer with an end, from a cursor and the next frame's number.
-type Step = fn(&[u8], usize, usize, u64) -> Result<Framed, Refusal>;
+/// Where a frame walk stands, where walking last went on, and the next frame's number. The first cursor is the default one, 0, 0
+/// and 0. Behind an over-long element walking goes on at its value's place, behind any other record at its value's end.
+///
+/// ```
+/// use brinethimble::{FrameCursor, Sony};
+///
+/// let ancillary = *b"\x06\x0e\x2b\x34\x01\x02\x01\x01\x0d\x01\x03\x01\x17\x01\x02\x01";
+/// let file = [&ancillary[..], &[0], &ancillary, &[0]].concat();
+/// let mut walk = Sony::from_cursor(&file, 34, FrameCursor { at: 17, since: 9, number: 5 })?;
+/// assert_eq!(walk.next().map(|frame| (frame.number, frame.element.passed)), Some((5, 8)));
+/// assert_eq!(walk.cursor(), FrameCursor { at: 34, since: 34, number: 6 });
+/// # Ok::<(), brinethimble::Refusal>(())
+/// ```
+#[derive(Clone, Copy, PartialEq, Eq, Default, Debug)]
+pub struct FrameCursor {
+    /// Where the walk stands.
+    pub at: usize,
+    /// Where walking last went on.
+    pub since: usize,
+    /// The next frame's number.
+    pub number: u64,
+}
 
-/// A camera's walk: where it is and which number comes next.
+/// A camera's step over a buffer with an end, from a cursor.
+type Step = fn(&[u8], usize, FrameCursor) -> Result<Framed, Refusal>;
+
+/// A camera's walk.
 #[derive(Clone, Debug)]
 struct Walk<'a> {
     s: &'a [u8],
     end: usize,
     step: Step,
-    at: usize,
-    number: u64,
+    cursor: FrameCursor,
 }
 
 impl<'a> Walk<'a> {
-    /// The walk from a cursor and the next frame's number, refused where every step would be: one at the end finds nothing.
-    fn new(s: &'a [u8], end: usize, step: Step, (at, number): (usize, u64)) -> Result<Self, Refusal> {
-        step(s, end, end, 0)?;
-        Ok(Walk { s, end, step, at, number })
+    /// The walk from a cursor, refused where every step would be: one at the end finds nothing.
+    fn new(s: &'a [u8], end: usize, step: Step, cursor: FrameCursor) -> Result<Self, Refusal> {
+        step(s, end, FrameCursor { at: end, since: end, number: 0 })?;
+        Ok(Walk { s, end, step, cursor })
     }
 
     /// What the next step gives.
     fn next(&mut self) -> Option<CanonItem<'a>> {
-        let [found, number, place, value, length, overlong, at, next] = (self.step)(self.s, self.end, self.at, self.number).ok()?;
-        (self.at, self.number) = (at as usize, next);
-        let element = || Record::at(self.s, [place, value, length]);
+        let [found, number, place, value, length, overlong, at, next, passed, since] = (self.step)(self.s, self.end, self.cursor).ok()?;
+        self.cursor = FrameCursor { at: at as usize, since: since as usize, number: next };
+        let element = || Record::at(self.s, [place, value, length], passed);
         match found {
             0 => None,
             1 => Some(CanonItem::Frame(Frame { number, element: element(), overlong: overlong == 1 })),
@@ -96,31 +118,33 @@ impl<'a> Sony<'a> {
     /// # Ok::<(), Refusal>(())
     /// ```
     pub fn new(s: &'a [u8], end: usize) -> Result<Self, Refusal> {
-        Sony::from_cursor(s, end, (0, 0))
+        Sony::from_cursor(s, end, FrameCursor::default())
     }
 
-    /// The same from a cursor and the next frame's number.
+    /// The same from a cursor.
     ///
     /// ```
+    /// use brinethimble::{FrameCursor, Sony};
+    ///
     /// let ancillary = *b"\x06\x0e\x2b\x34\x01\x02\x01\x01\x0d\x01\x03\x01\x17\x01\x02\x01";
     /// let file = [&ancillary[..], &[0], &ancillary, &[0]].concat();
-    /// let mut walk = brinethimble::Sony::from_cursor(&file, 34, (17, 5))?;
+    /// let mut walk = Sony::from_cursor(&file, 34, FrameCursor { at: 17, since: 17, number: 5 })?;
     /// assert_eq!(walk.next().map(|frame| frame.number), Some(5));
-    /// assert_eq!(walk.cursor(), (34, 6));
+    /// assert_eq!(walk.cursor(), FrameCursor { at: 34, since: 34, number: 6 });
     /// # Ok::<(), brinethimble::Refusal>(())
     /// ```
-    pub fn from_cursor(s: &'a [u8], end: usize, cursor: (usize, u64)) -> Result<Self, Refusal> {
+    pub fn from_cursor(s: &'a [u8], end: usize, cursor: FrameCursor) -> Result<Self, Refusal> {
         Walk::new(s, end, boundary::sony_step, cursor).map(Sony)
     }
 
-    /// Where the walk is, and the next frame's number.
+    /// Where the walk is.
     ///
     /// ```
-    /// assert_eq!(brinethimble::Sony::new(&[], 0)?.cursor(), (0, 0));
+    /// assert_eq!(brinethimble::Sony::new(&[], 0)?.cursor(), brinethimble::FrameCursor::default());
     /// # Ok::<(), brinethimble::Refusal>(())
     /// ```
-    pub fn cursor(&self) -> (usize, u64) {
-        (self.0.at, self.0.number)
+    pub fn cursor(&self) -> FrameCursor {
+        self.0.cursor
     }
 }
 
@@ -147,31 +171,33 @@ impl<'a> Arri<'a> {
     /// # Ok::<(), brinethimble::Refusal>(())
     /// ```
     pub fn new(s: &'a [u8], end: usize) -> Result<Self, Refusal> {
-        Arri::from_cursor(s, end, (0, 0))
+        Arri::from_cursor(s, end, FrameCursor::default())
     }
 
-    /// The same from a cursor and the next frame's number.
+    /// The same from a cursor.
     ///
     /// ```
+    /// use brinethimble::{Arri, FrameCursor};
+    ///
     /// let picture = *b"\x06\x0e\x2b\x34\x02\x43\x01\x01\x0d\x01\x03\x01\x04\x01\x03\x01";
     /// let file = [&picture[..], &[0], &picture, &[0]].concat();
-    /// let mut walk = brinethimble::Arri::from_cursor(&file, 34, (17, 5))?;
+    /// let mut walk = Arri::from_cursor(&file, 34, FrameCursor { at: 17, since: 17, number: 5 })?;
     /// assert_eq!(walk.next().map(|frame| frame.number), Some(5));
-    /// assert_eq!(walk.cursor(), (34, 6));
+    /// assert_eq!(walk.cursor(), FrameCursor { at: 34, since: 34, number: 6 });
     /// # Ok::<(), brinethimble::Refusal>(())
     /// ```
-    pub fn from_cursor(s: &'a [u8], end: usize, cursor: (usize, u64)) -> Result<Self, Refusal> {
+    pub fn from_cursor(s: &'a [u8], end: usize, cursor: FrameCursor) -> Result<Self, Refusal> {
         Walk::new(s, end, boundary::arri_step, cursor).map(Arri)
     }
 
-    /// Where the walk is, and the next frame's number.
+    /// Where the walk is.
     ///
     /// ```
-    /// assert_eq!(brinethimble::Arri::new(&[], 0)?.cursor(), (0, 0));
+    /// assert_eq!(brinethimble::Arri::new(&[], 0)?.cursor(), brinethimble::FrameCursor::default());
     /// # Ok::<(), brinethimble::Refusal>(())
     /// ```
-    pub fn cursor(&self) -> (usize, u64) {
-        (self.0.at, self.0.number)
+    pub fn cursor(&self) -> FrameCursor {
+        self.0.cursor
     }
 }
 
@@ -207,33 +233,33 @@ impl<'a> Canon<'a> {
     /// # Ok::<(), brinethimble::Refusal>(())
     /// ```
     pub fn new(s: &'a [u8], end: usize) -> Result<Self, Refusal> {
-        Canon::from_cursor(s, end, (0, 0))
+        Canon::from_cursor(s, end, FrameCursor::default())
     }
 
-    /// The same from a cursor and the next frame's number.
+    /// The same from a cursor.
     ///
     /// ```
-    /// use brinethimble::{Canon, CanonItem};
+    /// use brinethimble::{Canon, CanonItem, FrameCursor};
     ///
     /// let ancillary = *b"\x06\x0e\x2b\x34\x01\x02\x01\x01\x0d\x01\x03\x01\x17\x01\x02\x01";
     /// let file = [&ancillary[..], &[0], &ancillary, &[0]].concat();
-    /// let mut walk = Canon::from_cursor(&file, 34, (17, 5))?;
+    /// let mut walk = Canon::from_cursor(&file, 34, FrameCursor { at: 17, since: 17, number: 5 })?;
     /// assert!(matches!(walk.next(), Some(CanonItem::Frame(frame)) if frame.number == 5));
-    /// assert_eq!(walk.cursor(), (34, 6));
+    /// assert_eq!(walk.cursor(), FrameCursor { at: 34, since: 34, number: 6 });
     /// # Ok::<(), brinethimble::Refusal>(())
     /// ```
-    pub fn from_cursor(s: &'a [u8], end: usize, cursor: (usize, u64)) -> Result<Self, Refusal> {
+    pub fn from_cursor(s: &'a [u8], end: usize, cursor: FrameCursor) -> Result<Self, Refusal> {
         Walk::new(s, end, boundary::canon_step, cursor).map(Canon)
     }
 
-    /// Where the walk is, and the next frame's number.
+    /// Where the walk is.
     ///
     /// ```
-    /// assert_eq!(brinethimble::Canon::new(&[], 0)?.cursor(), (0, 0));
+    /// assert_eq!(brinethimble::Canon::new(&[], 0)?.cursor(), brinethimble::FrameCursor::default());
     /// # Ok::<(), brinethimble::Refusal>(())
     /// ```
-    pub fn cursor(&self) -> (usize, u64) {
-        (self.0.at, self.0.number)
+    pub fn cursor(&self) -> FrameCursor {
+        self.0.cursor
     }
 }
 
@@ -296,5 +322,21 @@ mod tests {
         bytes[1000..1017].copy_from_slice(&[&PICTURE[..], &[0]].concat());
         let frames: Vec<_> = Arri::new(&bytes, bytes.len()).unwrap().map(|frame| (frame.number, frame.element.place)).collect();
         assert_eq!(frames, [(0, 0), (1, 1000)]);
+    }
+
+    #[test]
+    fn behind_an_over_long_element_bytes_count_from_its_value() {
+        let frame = [&PICTURE[..], &[0]].concat();
+        let mut bytes = [&PICTURE[..], &[0x82, 0x20, 0x01], &[0; 8193], &frame].concat();
+        bytes[100..117].copy_from_slice(&frame);
+        let frames: Vec<_> = Arri::new(&bytes, bytes.len()).unwrap().map(|frame| (frame.element.place, frame.element.passed)).collect();
+        assert_eq!(frames, [(0, 0), (100, 81), (8212, 8095)]);
+    }
+
+    #[test]
+    fn bytes_before_another_record_are_not_a_frames() {
+        let other = b"\x06\x0e\x2b\x34\x01\x01\x01\x0d\x0e\x15\x00\x01\x00\x01\x00\x00\x02ab";
+        let file = [&[0; 5][..], other, &[9; 3], &ANCILLARY, &[0]].concat();
+        assert_eq!(Sony::new(&file, file.len()).unwrap().map(|frame| frame.element.passed).collect::<Vec<_>>(), [3]);
     }
 }

@@ -42,7 +42,7 @@ impl<'a> Iterator for Klvs<'a> {
     type Item = Record<'a>;
 
     fn next(&mut self) -> Option<Record<'a>> {
-        let (record, next) = Record::stepped(self.data, boundary::run(self.data, self.at));
+        let (record, next) = Record::of_run(self.data, boundary::run(self.data, self.at));
         self.at = next;
         record
     }

@@ -14,6 +14,7 @@
 //! assert_eq!((records[1].place, records[1].label, records[1].value_place), (20, &other, 38));
 //! assert_eq!(records[1].value, []);
 //! assert_eq!((records[1].length_bytes, records[1].shortest), (2, false));
+//! assert_eq!((records[0].passed, records[1].passed), (1, 0));
 //! assert_eq!(records.len(), 2);
 //! ```
 //!
@@ -41,9 +42,9 @@ pub mod values;
 pub mod walk;
 
 pub use canon::{Camera, Member, Packages, Sequence, Value, camera_metadata, package_metadata, stream_file_sequence_info};
-pub use frames::{Arri, Canon, CanonItem, Frame, Sony};
+pub use frames::{Arri, Canon, CanonItem, Frame, FrameCursor, Sony};
 pub use items::{Coding, Item, Items, Klvs, klvs, local_items};
 pub use record::{Length, Record, Refusal, next_key, read_ber, same_label};
 pub use tables::{Area, Descriptor, Lines, Primer, dynamic_metadata, header_partition_metadata, lines, payload_into};
 pub use values::{Distance, Encoders, FrameValues, TStop, of_alexa35, of_dynamic, values_of};
-pub use walk::{Arriving, Filled, Listed, Records, Tally, next_klv, records_into, tally};
+pub use walk::{Arriving, Cursor, Filled, Listed, Records, Tally, next_klv, records_into, tally};

@@ -18,6 +18,7 @@
 use std::fmt;
 
 use crate::boundary;
+use crate::walk::Cursor;
 
 /// Why a call refuses: it has answered nothing and written nothing.
 #[derive(Clone, Copy, PartialEq, Eq, Debug)]
@@ -97,11 +98,15 @@ pub struct Record<'a> {
     pub length_bytes: usize,
     /// Whether that is the shortest form of its length, as in [`Length::Is`].
     pub shortest: bool,
+    /// How many bytes a walk passed before it: those from the place where walking last went on to its own. 0 where it comes from
+    /// no walk, but from a run or a set.
+    pub passed: usize,
 }
 
 impl<'a> Record<'a> {
-    /// The record at a place, with its value's place and length, the bytes of its length field, and shortest or not.
-    fn new(s: &'a [u8], [place, value, length, bytes, shortest]: [u64; 5]) -> Self {
+    /// The record at a place, with its value's place and length, the bytes of its length field, shortest or not, and the bytes
+    /// passed before it.
+    fn new(s: &'a [u8], [place, value, length, bytes, shortest, passed]: [u64; 6]) -> Self {
         let label = part(s, place, 16).try_into().expect("16 bytes of label");
         Record {
             place: place as usize,
@@ -110,19 +115,28 @@ impl<'a> Record<'a> {
             value: part(s, value, length),
             length_bytes: bytes as usize,
             shortest: shortest == 1,
+            passed: passed as usize,
         }
     }
 
-    /// The record at a place, with its value's place and length, from a call that says no more: its length field is read again.
-    pub(crate) fn at(s: &'a [u8], [place, value, length]: [u64; 3]) -> Self {
+    /// The record at a place, with its value's place and length and the bytes passed before it, from a call that says no more: its
+    /// length field is read again.
+    pub(crate) fn at(s: &'a [u8], [place, value, length]: [u64; 3], passed: u64) -> Self {
         let [_, _, bytes, shortest] = boundary::length(s, place as usize + 16);
-        Record::new(s, [place, value, length, bytes, shortest])
+        Record::new(s, [place, value, length, bytes, shortest, passed])
     }
 
-    /// The record that a step found, if it did, and the next cursor.
-    pub(crate) fn stepped(s: &'a [u8], stepped: boundary::Stepped) -> (Option<Self>, usize) {
+    /// The record that a walk's step found, if it did, and the next cursor.
+    pub(crate) fn stepped(s: &'a [u8], stepped: boundary::Stepped) -> (Option<Self>, Cursor) {
+        let [found, place, value, length, next, bytes, shortest, passed, since] = stepped;
+        let record = (found == 1).then(|| Record::new(s, [place, value, length, bytes, shortest, passed]));
+        (record, Cursor { at: next as usize, since: since as usize })
+    }
+
+    /// The record that a run's step found, if it did, and the next place.
+    pub(crate) fn of_run(s: &'a [u8], stepped: boundary::Inside) -> (Option<Self>, usize) {
         let [found, place, value, length, next, bytes, shortest] = stepped;
-        ((found == 1).then(|| Record::new(s, [place, value, length, bytes, shortest])), next as usize)
+        ((found == 1).then(|| Record::new(s, [place, value, length, bytes, shortest, 0])), next as usize)
     }
 }
 

@@ -228,7 +228,8 @@ mod tests {
 
     #[test]
     fn a_frame_with_places_past_the_buffer_has_no_values() {
-        let element = Record { place: usize::MAX, label: &[0; 16], value_place: usize::MAX, value: &[], length_bytes: 0, shortest: false };
+        let (label, far) = (&[0; 16], usize::MAX);
+        let element = Record { place: far, label, value_place: far, value: &[], length_bytes: 0, shortest: false, passed: 0 };
         for overlong in [false, true] {
             assert_eq!(values_of(&[], &Frame { number: 0, element, overlong }), None);
         }

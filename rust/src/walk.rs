@@ -4,37 +4,61 @@
 //! lists an upload that is under way: a record that it gives is in the finished list of every file that starts with these
 //! bytes, so more bytes never unsay one. It waits where a record may still come whole within the operator's limit.
 //!
+//! A walk stands at a [`Cursor`], which also has the place where walking last went on. From there to a record's start are the
+//! bytes that were passed before it ([`Record::passed`]): what was lost in between.
+//!
 //! ```
 //! use brinethimble::{Arriving, Records};
 //!
 //! let label = *b"\x06\x0e\x2b\x34\x01\x01\x01\x0d\x0e\x15\x00\x01\x00\x01\x00\x00";
-//! let file = [&label[..], &[2, 0xaa, 0xbb], &label, &[0]].concat();
-//! assert_eq!(Records::of(&file).map(|record| record.place).collect::<Vec<_>>(), [0, 19]);
+//! let file = [&[0; 5][..], &label, &[2, 0xaa, 0xbb], &[0x99; 3], &label, &[0]].concat();
+//! assert_eq!(Records::of(&file).map(|record| (record.place, record.passed)).collect::<Vec<_>>(), [(5, 5), (27, 3)]);
 //!
 //! let mut upload = Arriving::new(1000);
-//! assert_eq!(upload.feed(&file[..18])?.count(), 0);
-//! assert_eq!(upload.cursor(), 0);
-//! let arrived: Vec<_> = upload.feed(&file)?.map(|record| record.place).collect();
-//! assert_eq!(arrived, [0, 19]);
+//! assert_eq!(upload.feed(&file[..22])?.count(), 0);
+//! assert_eq!((upload.cursor().at, upload.cursor().since), (5, 0));
+//! let arrived: Vec<_> = upload.feed(&file)?.map(|record| (record.place, record.passed)).collect();
+//! assert_eq!(arrived, [(5, 5), (27, 3)]);
 //! # Ok::<(), brinethimble::Refusal>(())
 //! ```
 
 use crate::boundary;
 use crate::record::{Record, Refusal};
 
-/// A step of the finished walk from a cursor, the first of which is 0: the next record, or none where the walk is over, and
-/// the next cursor.
+/// Where a walk stands, and where walking last went on. The first cursor is the default one, 0 and 0; behind a record both are its
+/// value's end.
+///
+/// ```
+/// use brinethimble::{Cursor, next_klv};
+///
+/// let label = *b"\x06\x0e\x2b\x34\x01\x01\x01\x0d\x0e\x15\x00\x01\x00\x01\x00\x00";
+/// let file = [&[0][..], &label, &[0]].concat();
+/// let passed = |since| next_klv(&file, 18, Cursor { at: 1, since }).map(|(record, _)| record.unwrap().passed);
+/// assert_eq!((passed(0)?, passed(1)?), (1, 0));
+/// assert_eq!(passed(9)?, 0, "a place past the cursor counts as the cursor");
+/// # Ok::<(), brinethimble::Refusal>(())
+/// ```
+#[derive(Clone, Copy, PartialEq, Eq, Default, Debug)]
+pub struct Cursor {
+    /// Where the walk stands.
+    pub at: usize,
+    /// Where walking last went on: the end of the last record's value, at first 0.
+    pub since: usize,
+}
+
+/// A step of the finished walk from a cursor: the next record, or none where the walk is over, and the next cursor.
 ///
 /// ```
 /// let label = *b"\x06\x0e\x2b\x34\x01\x01\x01\x0d\x0e\x15\x00\x01\x00\x01\x00\x00";
 /// let file = [&label[..], &[0]].concat();
-/// let (record, next) = brinethimble::next_klv(&file, 17, 0)?;
-/// assert_eq!((record.unwrap().value_place, next), (17, 17));
-/// assert_eq!(brinethimble::next_klv(&file, 16, 0)?, (None, 0));
+/// let first = brinethimble::Cursor::default();
+/// let (record, next) = brinethimble::next_klv(&file, 17, first)?;
+/// assert_eq!((record.unwrap().value_place, next.at, next.since), (17, 17, 17));
+/// assert_eq!(brinethimble::next_klv(&file, 16, first)?, (None, first));
 /// # Ok::<(), brinethimble::Refusal>(())
 /// ```
-pub fn next_klv(s: &[u8], end: usize, at: usize) -> Result<(Option<Record<'_>>, usize), Refusal> {
-    boundary::step(s, end, at).map(|stepped| Record::stepped(s, stepped))
+pub fn next_klv(s: &[u8], end: usize, cursor: Cursor) -> Result<(Option<Record<'_>>, Cursor), Refusal> {
+    boundary::step(s, end, cursor).map(|stepped| Record::stepped(s, stepped))
 }
 
 /// The records of the finished walk.
@@ -42,7 +66,7 @@ pub fn next_klv(s: &[u8], end: usize, at: usize) -> Result<(Option<Record<'_>>, 
 pub struct Records<'a> {
     s: &'a [u8],
     end: usize,
-    at: usize,
+    cursor: Cursor,
 }
 
 impl<'a> Records<'a> {
@@ -54,7 +78,7 @@ impl<'a> Records<'a> {
     /// assert_eq!(brinethimble::Records::of(&[&label[..], &[0]].concat()).count(), 1);
     /// ```
     pub fn of(s: &'a [u8]) -> Self {
-        Records { s, end: s.len(), at: 0 }
+        Records { s, end: s.len(), cursor: Cursor::default() }
     }
 
     /// The records of a buffer up to an end.
@@ -68,18 +92,18 @@ impl<'a> Records<'a> {
     /// ```
     pub fn before(s: &'a [u8], end: usize) -> Result<Self, Refusal> {
         // A step at the end finds nothing, and is refused where every other would be.
-        boundary::step(s, end, end)?;
-        Ok(Records { s, end, at: 0 })
+        boundary::step(s, end, Cursor { at: end, since: end })?;
+        Ok(Records { s, end, cursor: Cursor::default() })
     }
 
     /// Where the walk is.
     ///
     /// ```
     /// let mut records = brinethimble::Records::of(&[0; 20]);
-    /// assert_eq!((records.cursor(), records.next(), records.cursor()), (0, None, 20));
+    /// assert_eq!((records.cursor().at, records.next(), records.cursor().at), (0, None, 20));
     /// ```
-    pub fn cursor(&self) -> usize {
-        self.at
+    pub fn cursor(&self) -> Cursor {
+        self.cursor
     }
 }
 
@@ -87,8 +111,8 @@ impl<'a> Iterator for Records<'a> {
     type Item = Record<'a>;
 
     fn next(&mut self) -> Option<Record<'a>> {
-        let (record, next) = next_klv(self.s, self.end, self.at).ok()?;
-        self.at = next;
+        let (record, next) = next_klv(self.s, self.end, self.cursor).ok()?;
+        self.cursor = next;
         record
     }
 }
@@ -97,7 +121,7 @@ impl<'a> Iterator for Records<'a> {
 #[derive(Clone, Debug)]
 pub struct Arriving {
     limit: usize,
-    at: usize,
+    cursor: Cursor,
 }
 
 impl Arriving {
@@ -108,23 +132,25 @@ impl Arriving {
     ///
     /// let mut upload = Arriving::new(40);
     /// assert_eq!(upload.next_klv(&[0; 41]), Err(Refusal::PastLimit));
-    /// assert_eq!(upload.cursor(), 0);
+    /// assert_eq!(upload.cursor().at, 0);
     /// ```
     pub fn new(limit: usize) -> Self {
-        Arriving::from_cursor(limit, 0)
+        Arriving::from_cursor(limit, Cursor::default())
     }
 
     /// The walk of an upload of at most so many bytes, from a cursor.
     ///
     /// ```
+    /// use brinethimble::{Arriving, Cursor};
+    ///
     /// let label = *b"\x06\x0e\x2b\x34\x01\x01\x01\x0d\x0e\x15\x00\x01\x00\x01\x00\x00";
     /// let file = [&label[..], &[1, 7], &label, &[0]].concat();
-    /// let mut upload = brinethimble::Arriving::from_cursor(1000, 18);
+    /// let mut upload = Arriving::from_cursor(1000, Cursor { at: 18, since: 18 });
     /// assert_eq!(upload.next_klv(&file)?.map(|record| record.place), Some(18));
     /// # Ok::<(), brinethimble::Refusal>(())
     /// ```
-    pub fn from_cursor(limit: usize, at: usize) -> Self {
-        Arriving { limit, at }
+    pub fn from_cursor(limit: usize, cursor: Cursor) -> Self {
+        Arriving { limit, cursor }
     }
 
     /// Where the walk is: where it waits, once a step has given no record.
@@ -132,11 +158,11 @@ impl Arriving {
     /// ```
     /// let mut upload = brinethimble::Arriving::new(100);
     /// assert_eq!(upload.next_klv(b"none of these starts a key\x06\x0e")?, None);
-    /// assert_eq!(upload.cursor(), 26);
+    /// assert_eq!((upload.cursor().at, upload.cursor().since), (26, 0));
     /// # Ok::<(), brinethimble::Refusal>(())
     /// ```
-    pub fn cursor(&self) -> usize {
-        self.at
+    pub fn cursor(&self) -> Cursor {
+        self.cursor
     }
 
     /// The next certain record in `a`, all that has arrived so far, or none where the walk waits.
@@ -145,14 +171,14 @@ impl Arriving {
     /// let label = *b"\x06\x0e\x2b\x34\x01\x01\x01\x0d\x0e\x15\x00\x01\x00\x01\x00\x00";
     /// let torn = [&label[..], &[1]].concat();
     /// let mut upload = brinethimble::Arriving::new(18);
-    /// assert_eq!((upload.next_klv(&torn)?, upload.cursor()), (None, 0)); // the value may still come
+    /// assert_eq!((upload.next_klv(&torn)?, upload.cursor().at), (None, 0)); // the value may still come
     /// let mut upload = brinethimble::Arriving::new(17);
-    /// assert_eq!((upload.next_klv(&torn)?, upload.cursor()), (None, 17)); // it cannot
+    /// assert_eq!((upload.next_klv(&torn)?, upload.cursor().at), (None, 17)); // it cannot
     /// # Ok::<(), brinethimble::Refusal>(())
     /// ```
     pub fn next_klv<'a>(&mut self, a: &'a [u8]) -> Result<Option<Record<'a>>, Refusal> {
-        let (record, next) = Record::stepped(a, boundary::arrive(a, self.limit, self.at)?);
-        self.at = next;
+        let (record, next) = Record::stepped(a, boundary::arrive(a, self.limit, self.cursor)?);
+        self.cursor = next;
         Ok(record)
     }
 
@@ -168,7 +194,7 @@ impl Arriving {
     /// ```
     pub fn feed<'a>(&mut self, a: &'a [u8]) -> Result<impl Iterator<Item = Record<'a>>, Refusal> {
         // As in `Records::before`: this step only refuses.
-        boundary::arrive(a, self.limit, a.len())?;
+        boundary::arrive(a, self.limit, Cursor { at: a.len(), since: a.len() })?;
         Ok(std::iter::from_fn(move || self.next_klv(a).ok()?))
     }
 
@@ -178,21 +204,21 @@ impl Arriving {
     /// let label = *b"\x06\x0e\x2b\x34\x01\x01\x01\x0d\x0e\x15\x00\x01\x00\x01\x00\x00";
     /// let file = [&label[..], &[1, 7], &label, &[0]].concat();
     /// let mut upload = brinethimble::Arriving::new(1000);
-    /// let mut room = [[0; 5]; 8];
+    /// let mut room = [[0; 6]; 8];
     /// assert_eq!(upload.feed_into(&file, &mut room)?, 2);
-    /// assert_eq!(room[..2], [[0, 17, 1, 1, 1], [18, 35, 0, 1, 1]]);
+    /// assert_eq!(room[..2], [[0, 17, 1, 1, 1, 0], [18, 35, 0, 1, 1, 0]]);
     /// # Ok::<(), brinethimble::Refusal>(())
     /// ```
     pub fn feed_into(&mut self, a: &[u8], room: &mut [Listed]) -> Result<usize, Refusal> {
-        let [records, next] = boundary::arrivals(a, self.limit, self.at, room.as_flattened_mut())?;
-        self.at = next as usize;
-        Ok(records as usize)
+        let filled = Filled::new(boundary::arrivals(a, self.limit, self.cursor, room.as_flattened_mut())?);
+        self.cursor = filled.next;
+        Ok(filled.records)
     }
 }
 
-/// A record in lent room: its place, its value's place, its value's length, the bytes of its length field, and 1 where that is
-/// the shortest form, else 0.
-pub type Listed = [u64; 5];
+/// A record in lent room: its place, its value's place, its value's length, the bytes of its length field, 1 where that is the
+/// shortest form, else 0, and the bytes passed before it.
+pub type Listed = [u64; 6];
 
 /// What [`records_into`] has put.
 #[derive(Clone, Copy, PartialEq, Eq, Debug)]
@@ -200,26 +226,33 @@ pub struct Filled {
     /// How many records.
     pub records: usize,
     /// The next cursor.
-    pub next: usize,
+    pub next: Cursor,
+}
+
+impl Filled {
+    /// What a call says that it has put.
+    fn new([records, next, since]: [u64; 3]) -> Self {
+        Filled { records: records as usize, next: Cursor { at: next as usize, since: since as usize } }
+    }
 }
 
 /// Fills lent room with records of the finished walk from a cursor. The walk is over if there was room for more.
 ///
 /// ```
-/// use brinethimble::{Filled, records_into};
+/// use brinethimble::{Cursor, records_into};
 ///
 /// let label = *b"\x06\x0e\x2b\x34\x01\x01\x01\x0d\x0e\x15\x00\x01\x00\x01\x00\x00";
-/// let file = [&label[..], &[1, 7], &label, &[0]].concat();
-/// let mut room = [[0; 5]];
-/// assert_eq!(records_into(&file, 35, 0, &mut room)?, Filled { records: 1, next: 18 });
-/// assert_eq!(room, [[0, 17, 1, 1, 1]]);
-/// assert_eq!(records_into(&file, 35, 18, &mut room)?, Filled { records: 1, next: 35 });
-/// assert_eq!(records_into(&file, 35, 35, &mut room)?, Filled { records: 0, next: 35 });
+/// let file = [&label[..], &[1, 7], &[9; 3], &label, &[0]].concat();
+/// let mut room = [[0; 6]];
+/// let first = records_into(&file, 38, Cursor::default(), &mut room)?;
+/// assert_eq!((first.records, first.next, room), (1, Cursor { at: 18, since: 18 }, [[0, 17, 1, 1, 1, 0]]));
+/// let second = records_into(&file, 38, first.next, &mut room)?;
+/// assert_eq!((second.records, second.next.at, room), (1, 38, [[21, 38, 0, 1, 1, 3]]));
+/// assert_eq!(records_into(&file, 38, second.next, &mut room)?.records, 0);
 /// # Ok::<(), brinethimble::Refusal>(())
 /// ```
-pub fn records_into(s: &[u8], end: usize, at: usize, room: &mut [Listed]) -> Result<Filled, Refusal> {
-    let [records, next] = boundary::records(s, end, at, room.as_flattened_mut())?;
-    Ok(Filled { records: records as usize, next: next as usize })
+pub fn records_into(s: &[u8], end: usize, cursor: Cursor, room: &mut [Listed]) -> Result<Filled, Refusal> {
+    boundary::records(s, end, cursor, room.as_flattened_mut()).map(Filled::new)
 }
 
 /// A file's records in groups by their labels.
@@ -273,6 +306,11 @@ pub fn tally(s: &[u8]) -> Tally {
 mod tests {
     use super::*;
 
+    /// The cursor at a place where walking went on.
+    fn at(place: usize) -> Cursor {
+        Cursor { at: place, since: place }
+    }
+
     /// A key with a length field and a value.
     fn record(kind: u8, length: &[u8], value: &[u8]) -> Vec<u8> {
         [b"\x06\x0e\x2b\x34", &[kind; 12][..], length, value].concat()
@@ -280,11 +318,11 @@ mod tests {
 
     #[test]
     fn nothing_is_found_in_nothing() {
-        assert_eq!(next_klv(&[], 0, 0), Ok((None, 0)));
-        assert_eq!(next_klv(&[], 0, usize::MAX), Ok((None, usize::MAX)));
+        assert_eq!(next_klv(&[], 0, at(0)), Ok((None, at(0))));
+        assert_eq!(next_klv(&[], 0, at(usize::MAX)), Ok((None, at(usize::MAX))));
         assert_eq!(Records::of(&[]).count(), 0);
         assert_eq!(Arriving::new(0).next_klv(&[]), Ok(None));
-        assert_eq!(records_into(&[], 0, 0, &mut []), Ok(Filled { records: 0, next: 0 }));
+        assert_eq!(records_into(&[], 0, at(0), &mut []), Ok(Filled { records: 0, next: at(0) }));
         assert_eq!(tally(&[]).groups().count(), 0);
     }
 
@@ -294,20 +332,20 @@ mod tests {
         assert_eq!(Records::of(&file).count(), 0);
         let mut upload = Arriving::new(usize::MAX);
         assert_eq!(upload.next_klv(&file), Ok(None));
-        assert_eq!(upload.cursor(), 25, "a value that ends past every limit is searched");
+        assert_eq!(upload.cursor(), Cursor { at: 25, since: 0 }, "a value that ends past every limit is searched");
     }
 
     #[test]
     fn refusals_leave_the_cursor() {
         let file = record(1, &[0], &[]);
-        assert_eq!(next_klv(&file, 18, 0), Err(Refusal::EndPastBuffer));
+        assert_eq!(next_klv(&file, 18, at(0)), Err(Refusal::EndPastBuffer));
         assert_eq!(Records::before(&file, usize::MAX).unwrap_err(), Refusal::EndPastBuffer);
-        assert_eq!(records_into(&file, 18, 0, &mut [[7; 5]]), Err(Refusal::EndPastBuffer));
+        assert_eq!(records_into(&file, 18, at(0), &mut [[7; 6]]), Err(Refusal::EndPastBuffer));
         let mut upload = Arriving::new(16);
         assert_eq!(upload.next_klv(&file), Err(Refusal::PastLimit));
         assert!(upload.feed(&file).is_err_and(|refusal| refusal == Refusal::PastLimit));
-        assert_eq!(upload.feed_into(&file, &mut [[7; 5]]), Err(Refusal::PastLimit));
-        assert_eq!(upload.cursor(), 0);
+        assert_eq!(upload.feed_into(&file, &mut [[7; 6]]), Err(Refusal::PastLimit));
+        assert_eq!(upload.cursor(), at(0));
     }
 
     #[test]
@@ -324,17 +362,33 @@ mod tests {
         let mut upload = Arriving::new(file.len());
         let mut places = Vec::new();
         for arrived in 0..=file.len() {
-            places.extend(upload.feed(&file[..arrived]).unwrap().map(|record| record.place));
+            places.extend(upload.feed(&file[..arrived]).unwrap().map(|record| (record.place, record.passed)));
         }
-        assert_eq!(places, Records::of(&file).map(|record| record.place).collect::<Vec<_>>());
-        assert_eq!(places, [0, 29]);
+        assert_eq!(places, Records::of(&file).map(|record| (record.place, record.passed)).collect::<Vec<_>>());
+        assert_eq!(places, [(0, 0), (29, 7)]);
+    }
+
+    #[test]
+    fn waiting_keeps_the_place_where_walking_last_went_on() {
+        let file = [&[0; 3][..], &record(1, &[0], &[])].concat();
+        let mut upload = Arriving::new(99);
+        assert_eq!((upload.next_klv(&file[..19]), upload.cursor()), (Ok(None), Cursor { at: 3, since: 0 }));
+        assert_eq!(upload.next_klv(&file).unwrap().map(|record| (record.place, record.passed)), Some((3, 3)));
+        assert_eq!(upload.cursor(), at(20));
+    }
+
+    #[test]
+    fn a_place_past_the_cursor_counts_as_the_cursor() {
+        let file = [&[0][..], &record(1, &[0], &[])].concat();
+        assert_eq!(next_klv(&file, 18, Cursor { at: 0, since: 10 }).unwrap().0.map(|record| record.passed), Some(1));
+        assert_eq!(next_klv(&file, 18, Cursor { at: 5, since: 10 }), Ok((None, Cursor { at: 5, since: 5 })));
     }
 
     #[test]
     fn room_past_the_last_record_keeps_its_contents() {
-        let mut room = [[7; 5]; 2];
-        assert_eq!(records_into(&record(1, &[0], &[]), 17, 0, &mut room), Ok(Filled { records: 1, next: 17 }));
-        assert_eq!(room, [[0, 17, 0, 1, 1], [7; 5]]);
+        let mut room = [[7; 6]; 2];
+        assert_eq!(records_into(&record(1, &[0], &[]), 17, at(0), &mut room), Ok(Filled { records: 1, next: at(17) }));
+        assert_eq!(room, [[0, 17, 0, 1, 1, 0], [7; 6]]);
     }
 
     #[test]

@@ -46,15 +46,16 @@ fn on_buffers(holds: impl Fn(&[u8], usize)) {
 
 /// A record as lent room has it.
 fn places(record: Record) -> Listed {
-    [record.place, record.value_place, record.value.len(), record.length_bytes, record.shortest.into()].map(|place| place as u64)
+    let form = [record.length_bytes, record.shortest.into()];
+    [record.place, record.value_place, record.value.len(), form[0], form[1], record.passed].map(|place| place as u64)
 }
 
 #[test]
 fn batches_and_steps_give_the_same_records() {
     on_buffers(|s, room| {
         let mut batches = Vec::new();
-        let mut lent = vec![[0; 5]; 1 + room % 4];
-        let mut at = 0;
+        let mut lent = vec![[0; 6]; 1 + room % 4];
+        let mut at = Cursor::default();
         loop {
             let filled = records_into(s, s.len(), at, &mut lent).unwrap();
             batches.extend_from_slice(&lent[..filled.records]);
@@ -74,8 +75,8 @@ fn an_end_past_the_buffer_is_refused_by_all_and_no_other_is() {
     on_buffers(|s, end| {
         let refused = end > s.len();
         assert_eq!(Records::before(s, end).is_err(), refused);
-        assert_eq!(next_klv(s, end, 0).is_err(), refused);
-        assert_eq!(records_into(s, end, 0, &mut []).is_err(), refused);
+        assert_eq!(next_klv(s, end, Cursor::default()).is_err(), refused);
+        assert_eq!(records_into(s, end, Cursor::default(), &mut []).is_err(), refused);
         assert_eq!(Sony::new(s, end).is_err(), refused);
         assert_eq!(Arri::new(s, end).is_err(), refused);
         assert_eq!(Canon::new(s, end).is_err(), refused);
@@ -93,10 +94,19 @@ fn what_has_arrived_begins_the_finished_list() {
             arrived.extend(upload.feed(&s[..count]).unwrap().map(places));
         }
         assert!(finished.starts_with(&arrived));
-        let mut room = vec![[0; 5]; finished.len() + 1];
+        let mut room = vec![[0; 6]; finished.len() + 1];
         let mut again = Arriving::new(limit);
         assert_eq!(again.feed_into(s, &mut room), Ok(arrived.len()));
         assert_eq!((&room[..arrived.len()], again.cursor()), (&arrived[..], upload.cursor()));
+    });
+}
+
+#[test]
+fn what_was_passed_and_the_records_add_up_to_the_last_ones_end() {
+    on_buffers(|s, end| {
+        let records: Vec<_> = Records::before(s, end.min(s.len())).unwrap().collect();
+        let sum: usize = records.iter().map(|record| record.passed + 16 + record.length_bytes + record.value.len()).sum();
+        assert_eq!(sum, records.last().map_or(0, |last| last.value_place + last.value.len()));
     });
 }
 

@@ -3,4 +3,5 @@ pub mod Held
 pub mod Longest
 pub mod GoingOn
 pub mod Told
+pub mod Since
 pub mod Certain

@@ -53,6 +53,18 @@ module _ (next : Item → ℕ) (on : Onward next) (a : List ℕ) where
       let whole = rw append-nil at (i .rest [] (rw append-nil (le-refl (length a)))) in
       rw append-nil at (rw (none-waited (i .w) (i .waits)) at whole)
 
+-- the same from cursors that count as others, if one where the walk waits counts as itself
+pub counting-as : {A C : Type 0} {listed : List ℕ → ℕ → C → List A} {arrived : ℕ → List ℕ → C → List A} {waits : ℕ → List ℕ → C → C} (like : C → C)
+    → ((limit : ℕ) (a : List ℕ) (k : C) → like (waits limit a (like k)) ≡ waits limit a (like k)) → CertainLists listed arrived waits
+    → CertainLists (λ f e k. listed f e (like k)) (λ limit a k. arrived limit a (like k)) (λ limit a k. waits limit a (like k))
+counting-as {arrived = arrived} like itself c =
+    record {
+      certain = λ limit a k. c .certain limit a (like k);
+      never-unsaid = λ limit a x k. c .never-unsaid limit a x (like k);
+      goes-on = λ limit a x k fits. ap (λ (j : _). arrived limit a (like k) ++ arrived limit (a ++ x) j) (itself limit a k) ∙ c .goes-on limit a x (like k) fits;
+      nothing-more = λ a k. c .nothing-more a (like k);
+    }
+
 module _ {S B : Type 0} (next : Item → ℕ) (say : S → Item → Said S B) (teller : Teller next say) where
   sure : Certain (finishedTold next say) (arrivingTold next say)
   sure limit a k bytes fits = longest-told next say teller limit a fits k bytes

@@ -6,9 +6,12 @@ use mathlib.Core.List.{List, _++_}
 use lib.ListN.{length}
 use Rattle.parts.specs.Bytes.{Bytes}
 use Rattle.steps.specs.Told.{found}
+use Rattle.steps.specs.Next.{Cursor}
+use Rattle.steps.specs.Passed.{Passed}
 use Rattle.klv.specs.Item.{Item}
-use Rattle.walk.specs.Walk.{arrivingStep}
+use Rattle.walk.specs.Passed.{arrivingPassing}
 use Rattle.records.specs.Records.{finishedFrom, arrivingFrom, waitsAt}
+use Rattle.records.specs.Passed.{finishedPassed, arrivingPassed, waitsPassed}
 
 -- a file, of bytes, that starts with a and is no longer than the limit; a itself is one, where it is within the limit
 pub record File (limit : ℕ) (a f : List ℕ) : Type 0 where
@@ -62,8 +65,12 @@ pub record CertainLists {A C : Type 0} (listed : List ℕ → ℕ → C → List
 abbrev pub CertainRecords : Type 0
 CertainRecords = CertainLists finishedFrom arrivingFrom waitsAt
 
--- A record that a step gave stays the next one, whatever has come since, and walking goes on from its cursor
+-- and with the bytes passed before each (docs/RULES.md, "L9. The bytes that were passed"), from any cursor
+abbrev pub CertainPassed : Type 0
+CertainPassed = CertainLists finishedPassed arrivingPassed waitsPassed
+
+-- A record that a step gave stays the next one, count included, whatever has come since, and walking goes on from its cursor
 abbrev pub StaysNext : Type 0
 StaysNext =
-    (limit : ℕ) (a x : List ℕ) (p : ℕ) (i : Item) (q : ℕ) → length (a ++ x) ≤ limit → arrivingStep limit a p ≡ found i q
-    → arrivingStep limit (a ++ x) p ≡ found i q
+    (limit : ℕ) (a x : List ℕ) (k : Cursor ℕ) (c : Passed Item) (q : Cursor ℕ) → length (a ++ x) ≤ limit → arrivingPassing limit a k ≡ found c q
+    → arrivingPassing limit (a ++ x) k ≡ found c q

@@ -4,6 +4,7 @@ use mathlib.Core.Path.{_≡_, refl, sym, ap, _∙_}
 use mathlib.Core.List.{List, [], _∷_, _++_}
 use mathlib.Core.Bool.{Bool, true, false, cond}
 use native.Mathlib.Omega.{arith}
+use Rattle.steps.specs.Passed.{Passed}
 use Rattle.klv.specs.declared.Klv.{Klv}
 use Rattle.klv.specs.Item.{Item, item, past}
 use Rattle.walk.specs.declared.Walked.{Walked}
@@ -18,7 +19,7 @@ use Rattle.frame_walks.specs.declared.Camera.{Camera}
 use Rattle.frame_walks.specs.declared.Kind.{Kind}
 use Rattle.frame_walks.specs.declared.Kind.the-variants as kinds
 use Rattle.frame_walks.specs.Kinds.{kind, overLong, goesOn}
-use Rattle.frame_walks.specs.Frames.{Shown, framed, given, frame}
+use Rattle.frame_walks.specs.Frames.{carried, Shown, framed, given, frame, counted}
 use Rattle.frame_walks.proofs.Laws.{goes-onward}
 use Rattle.frame_lists.specs.Lists.{numbered, shown, AllRead, upToOverLong, CountedOverRecords}
 
@@ -65,18 +66,21 @@ module _ (c : Camera) (s : List ℕ) (e : ℕ) where
 -- Of any list: what is shown of it begins with what is shown of it so far, which is all of it where no record is over-long
 
 module _ (c : Camera) where
-  shown-begins : (l : List Item) (n : ℕ) → (r : List Shown) × (shown c n (upToOverLong c l) ++ r ≡ shown c n l)
+  shown-begins : (l : List Item) (g n : ℕ) → (r : List (Passed Shown)) × (shown c g n (upToOverLong c l) ++ r ≡ shown c g n l)
   unfolding upToOverLong shown numbered
-  shown-begins [] n = ([], refl)
-  shown-begins (i ∷ l) n = go (overLong c i) (kind c i) (shown-begins l)
+  shown-begins [] g n = ([], refl)
+  shown-begins (i ∷ l) g n = go (overLong c i) (kind c i) (shown-begins l (goesOn c i))
     where
-      go : (b : Bool) (x : Kind) → ((m : ℕ) → (r : List Shown) × (shown c m (upToOverLong c l) ++ r ≡ shown c m l))
-          → (r : List Shown) × (numbered c n i x (λ m. shown c m (cond b [] (upToOverLong c l))) ++ r ≡ numbered c n i x (λ m. shown c m l))
-      go true kinds.Frame ih = (shown c (n + 1) l, refl)
-      go true kinds.Given ih = (shown c n l, refl)
-      go true kinds.Other ih = (shown c n l, refl)
-      go false kinds.Frame ih = let r = ih (n + 1) in (r .0, ap (λ (t : List Shown). framed (frame c n i) ∷ t) (r .1))
-      go false kinds.Given ih = let r = ih n in (r .0, ap (λ (t : List Shown). given (i .klv) ∷ t) (r .1))
+      rest : ℕ → List (Passed Shown)
+      rest m = shown c (goesOn c i) m l
+
+      go : (b : Bool) (x : Kind) → ((m : ℕ) → (r : List (Passed Shown)) × (shown c (goesOn c i) m (upToOverLong c l) ++ r ≡ rest m))
+          → (r : List (Passed Shown)) × (numbered c g n i x (λ m. shown c (goesOn c i) m (cond b [] (upToOverLong c l))) ++ r ≡ numbered c g n i x rest)
+      go true kinds.Frame ih = (rest (n + 1), refl)
+      go true kinds.Given ih = (rest n, refl)
+      go true kinds.Other ih = (rest n, refl)
+      go false kinds.Frame ih = let r = ih (n + 1) in (r .0, ap (λ (t : List (Passed Shown)). counted (carried g n) i (framed (frame c n i)) ∷ t) (r .1))
+      go false kinds.Given ih = let r = ih n in (r .0, ap (λ (t : List (Passed Shown)). counted (carried g n) i (given (i .klv)) ∷ t) (r .1))
       go false kinds.Other ih = ih n
 
   read-whole : (l : List Item) → AllRead c l → upToOverLong c l ≡ l
@@ -93,8 +97,8 @@ pub counted-over-records : CountedOverRecords
 counted-over-records c s e =
     let same = same-within c s e (suc (e - 0)) 0 (omega arith) in
     record {
-      begins = rw same at (shown-begins c (finishedListBy (goesOn c) s e 0) 0);
+      begins = rw same at (shown-begins c (finishedListBy (goesOn c) s e 0) 0 0);
       whole = λ all.
           let d = same ∙ read-whole c (finishedFrom s e 0) all in
-          ap (shown c 0) (sym (whole-read c (finishedListBy (goesOn c) s e 0) (rw d all)) ∙ d);
+          ap (shown c 0 0) (sym (whole-read c (finishedListBy (goesOn c) s e 0) (rw d all)) ∙ d);
     }

@@ -7,6 +7,7 @@ use lib.ListN.{length}
 use Rattle.steps.specs.Told.{Told, found, nothing, refused}
 use Rattle.steps.specs.Listed.{before, listFrom}
 use Rattle.steps.specs.Tells.{saying, toldFrom}
+use Rattle.steps.specs.Passed.{Passed}
 use Rattle.steps.proofs.Laws.{Moves, listed}
 use Rattle.klv.specs.Item.{Item}
 use Rattle.records.specs.Records.{finishedListBy}
@@ -14,7 +15,7 @@ use Rattle.frame_walks.specs.declared.Camera.{Camera}
 use Rattle.frame_walks.specs.declared.Kind.{Kind}
 use Rattle.frame_walks.specs.declared.Kind.the-variants as kinds
 use Rattle.frame_walks.specs.Kinds.{kind, goesOn}
-use Rattle.frame_walks.specs.Frames.{Shown, framed, given, frame, after, showingAs, showing}
+use Rattle.frame_walks.specs.Frames.{carried, Shown, framed, given, frame, counted, after, showingAs, showing}
 use Rattle.frame_walks.proofs.Laws.{counts}
 use Rattle.frame_walks.proofs.Seeks.{record-step, record-moves}
 use Rattle.frame_lists.specs.Lists.{numbered, shown}
@@ -35,20 +36,20 @@ module _ {A : Type 0} (step : ℕ → Told A) (e : ℕ) (moves : Moves step e) w
       go (refused n q) x ih = rw (listed step e moves p, x) (omega arith)
 
 module _ (c : Camera) where
-  same-shown : (l : List Item) (n : ℕ) → n + length l < 2 ^ 64 → toldFrom (showing c) n l ≡ shown c n l
+  same-shown : (l : List Item) (g n : ℕ) → n + length l < 2 ^ 64 → toldFrom (showing c) (carried g n) l ≡ shown c g n l
   unfolding shown numbered toldFrom saying showing showingAs
-  same-shown [] n h = refl
-  same-shown (i ∷ l) n h = go (kind c i) (same-shown l)
+  same-shown [] g n h = refl
+  same-shown (i ∷ l) g n h = go (kind c i) (same-shown l (goesOn c i))
     where
-      go : (x : Kind) → ((m : ℕ) → m + length l < 2 ^ 64 → toldFrom (showing c) m l ≡ shown c m l)
-          → saying (λ t. toldFrom (showing c) t l) (showingAs c n i x) ≡ numbered c n i x (λ m. shown c m l)
+      go : (x : Kind) → ((m : ℕ) → m + length l < 2 ^ 64 → toldFrom (showing c) (carried (goesOn c i) m) l ≡ shown c (goesOn c i) m l)
+          → saying (λ t. toldFrom (showing c) t l) (showingAs c (carried g n) i x) ≡ numbered c g n i x (λ m. shown c (goesOn c i) m l)
       go kinds.Frame ih =
           let m = counts n (length l) h in
-          ap (λ (r : List Shown). framed (frame c n i) ∷ r) (ih (after n) (rw m (omega arith)) ∙ ap (λ (k : ℕ). shown c k l) m)
-      go kinds.Given ih = ap (λ (r : List Shown). given (i .klv) ∷ r) (ih n (omega arith))
+          ap (λ (r : List (Passed Shown)). counted (carried g n) i (framed (frame c n i)) ∷ r) (ih (after n) (rw m (omega arith)) ∙ ap (λ (k : ℕ). shown c (goesOn c i) k l) m)
+      go kinds.Given ih = ap (λ (r : List (Passed Shown)). counted (carried g n) i (given (i .klv)) ∷ r) (ih n (omega arith))
       go kinds.Other ih = ih n (omega arith)
 
 pub same-frames : SameFrames
 same-frames c s e h =
     let f : length (finishedListBy (goesOn c) s e 0) ≤ e - 0 = few-within (record-step c s e) e (record-moves c s e) (suc (e - 0)) 0 (omega arith) in
-    same-shown c (finishedListBy (goesOn c) s e 0) 0 (omega (arith, f))
+    same-shown c (finishedListBy (goesOn c) s e 0) 0 0 (omega (arith, f))

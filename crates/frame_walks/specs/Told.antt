@@ -4,6 +4,7 @@ use Prim.Native.Nat.{ℕ}
 use Rattle.steps.specs.Told.{Told, found, nothing, refused}
 use Rattle.steps.specs.Tells.{Said, tells, passes}
 use Rattle.steps.specs.Next.{Cursor, cursor}
+use Rattle.steps.specs.Passed.{Passed}
 use Rattle.klv.specs.Item.{Item}
 use Rattle.frame_walks.specs.declared.Camera.{Camera}
 use Rattle.frame_walks.specs.declared.Place.{Place}
@@ -11,31 +12,34 @@ use Rattle.frame_walks.specs.declared.Looked.{Looked}
 use Rattle.frame_walks.specs.declared.Looked.the-variants as looked
 use Rattle.frame_walks.specs.declared.FrameStep.{FrameStep}
 use Rattle.frame_walks.specs.declared.FrameStep.the-variants as step
-use Rattle.frame_walks.specs.Frames.{Shown, framed, given, FrameTold, showing}
+use Rattle.frame_walks.specs.Frames.{Carried, carried, Shown, framed, given, FrameTold, showing}
 
-abbrev pub placeAt : Place → Cursor ℕ
-placeAt c = cursor (c .at) (c .number)
+abbrev pub carriedBy : Place → Carried
+carriedBy c = carried (c .since) (c .number)
 
-unfoldable pub told : Cursor ℕ → FrameStep → FrameTold
-told k (step.Frame f c) = found (framed f) (placeAt c)
-told k (step.Given v c) = found (given v) (placeAt c)
+abbrev pub placeAt : Place → Cursor Carried
+placeAt c = cursor (c .at) (carriedBy c)
+
+unfoldable pub told : Cursor Carried → FrameStep → FrameTold
+told k (step.Frame f n c) = found (record { it = framed f; passed = n }) (placeAt c)
+told k (step.Given v n c) = found (record { it = given v; passed = n }) (placeAt c)
 told k (step.Over c) = nothing (placeAt c)
 told k step.Refused = refused 1 k
 
 -- What the parts of a step say
 
-abbrev pub place : ℕ → ℕ → Place
-place q n = record { at = q; number = n }
+abbrev pub place : ℕ → Carried → Place
+place q t = record { at = q; since = t .since; number = t .number }
 
-unfoldable pub shownAs : Place → Shown → FrameStep
-shownAs c (framed f) = step.Frame f c
-shownAs c (given v) = step.Given v c
+unfoldable pub shownAs : Place → ℕ → Shown → FrameStep
+shownAs c n (framed f) = step.Frame f n c
+shownAs c n (given v) = step.Given v n c
 
-unfoldable pub saidAs : ℕ → Said ℕ Shown → Looked
-saidAs q (tells b n) = looked.Found (shownAs (place q n) b)
-saidAs q (passes n) = looked.Pass (place q n)
+unfoldable pub saidAs : ℕ → Said Carried (Passed Shown) → Looked
+saidAs q (tells b t) = looked.Found (shownAs (place q t) (b .passed) (b .it))
+saidAs q (passes t) = looked.Pass (place q t)
 
-unfoldable pub lookedAs : Camera → ℕ → Told Item → Looked
-lookedAs c n (found i q) = saidAs q (showing c n i)
-lookedAs c n (nothing q) = looked.Found (step.Over (place q n))
-lookedAs c n (refused m q) = looked.Found step.Refused
+unfoldable pub lookedAs : Camera → Place → Told Item → Looked
+lookedAs c k (found i q) = saidAs q (showing c (carriedBy k) i)
+lookedAs c k (nothing q) = looked.Found (step.Over (place q (carriedBy k)))
+lookedAs c k (refused m q) = looked.Found step.Refused

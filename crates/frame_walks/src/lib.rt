@@ -2,13 +2,14 @@
 // other constants. A longer element takes its frame number and is marked over-long, and the walk goes on from its value.
 ghost use mathlib.Core.Path.{_≡_};
 ghost use lib.ListN.{length};
-ghost use Prim.Native.Nat.{_+_, _≤_};
+ghost use Prim.Native.Nat.{_+_, _-_, _≤_};
 ghost use Rattle.walk.specs.Walk.{finishedBy};
 ghost use Rattle.klv.specs.Item.{item};
 ghost use Rattle.frame_walks.specs.Kinds.{sonyKind, arriKind, canonKind, kindOf, longestOf, goesOn};
 ghost use Rattle.frame_walks.specs.Frames.{showing, frameStep, sonyStep, arriStep, canonStep};
-ghost use Rattle.frame_walks.specs.Told.{placeAt, told, saidAs, lookedAs};
+ghost use Rattle.frame_walks.specs.Told.{carriedBy, placeAt, told, saidAs, lookedAs};
 use klv::Klv;
+use parts::lesser;
 use walk::Cursor;
 use walk::Step;
 
@@ -35,9 +36,10 @@ pub struct FrameElement {
     pub overlong: bool,
 }
 
-// Where a frame walk stands, and the next frame's number.
+// Where a frame walk stands, where walking last went on, and the next frame's number.
 pub struct Place {
     pub at: usize,
+    pub since: usize,
     pub number: u64,
 }
 
@@ -148,10 +150,10 @@ fn longest_of(camera: Camera) -> usize
 
 // What a step of a frame walk finds.
 pub enum FrameStep {
-    // A frame, and the place to go on from.
-    Frame(FrameElement, Place),
-    // A value that is given beside the frames: Canon's alone.
-    Given(Klv, Place),
+    // A frame, the bytes passed before it, and the place to go on from.
+    Frame(FrameElement, usize, Place),
+    // A value that is given beside the frames, Canon's alone, likewise.
+    Given(Klv, usize, Place),
     // The walk is over.
     Over(Place),
     // The end is larger than the buffer.
@@ -165,11 +167,14 @@ pub enum Looked {
     Found(FrameStep),
 }
 
-// What a camera's walk makes of a record whose value ends at a place, the next frame having this number.
-fn met(s: &[u8], camera: Camera, number: u64, k: Klv, end: usize) -> Looked
+// What a camera's walk makes, from a place on, of the next record, before which so many bytes were passed, and whose value ends
+// at `end`.
+fn met(s: &[u8], camera: Camera, from: Place, k: Klv, passed: usize, end: usize) -> Looked
     requires { ⌜ end ≡ k .value + k .len ⌝ }
-    ensures { λ r. ⌜ r ≡ saidAs (goesOn camera (item 16 (now (s .entry)) k)) (showing camera number (item 16 (now (s .entry)) k)) ⌝ }
+    requires { ⌜ passed ≡ k .at - from .since ⌝ }
+    ensures { λ r. ⌜ r ≡ saidAs (goesOn camera (item 16 (now (s .entry)) k)) (showing camera (carriedBy from) (item 16 (now (s .entry)) k)) ⌝ }
 {
+    let number = from.number;
     let kind = kind_of(camera, k.label(s), k.len);
     match kind {
         Kind::Frame => {
@@ -183,27 +188,47 @@ fn met(s: &[u8], camera: Camera, number: u64, k: Klv, end: usize) -> Looked
                     element: k,
                     overlong,
                 },
+                passed,
                 Place {
                     at: next,
+                    since: next,
                     number: after,
                 },
             ))
         }
-        Kind::Given => Looked::Found(FrameStep::Given(k, Place { at: end, number })),
-        Kind::Other => Looked::Pass(Place { at: end, number }),
+        Kind::Given => {
+            let past = Place {
+                at: end,
+                since: end,
+                number,
+            };
+            Looked::Found(FrameStep::Given(k, passed, past))
+        }
+        Kind::Other => Looked::Pass(Place {
+            at: end,
+            since: end,
+            number,
+        }),
     }
 }
 
 // What a camera's walk makes of the next record from a place on.
 fn look(s: &[u8], end: usize, camera: Camera, from: Place) -> Looked
     requires { ⌜ end ≤ length (now s) ⌝ }
-    ensures { λ r. ⌜ r ≡ lookedAs camera (from .number) (finishedBy (goesOn camera) (now (s .entry)) end (from .at)) ⌝ }
+    requires { ⌜ from .since ≤ from .at ⌝ }
+    ensures { λ r. ⌜ r ≡ lookedAs camera from (finishedBy (goesOn camera) (now (s .entry)) end (from .at)) ⌝ }
 {
-    let number = from.number;
-    let t = Cursor { at: from.at }.step(s, end);
+    let t = Cursor {
+        at: from.at,
+        since: from.since,
+    }.step(s, end);
     match t {
-        Step::Record(k, c) => met(s, camera, number, k, c.at),
-        Step::Rests(c) => Looked::Found(FrameStep::Over(Place { at: c.at, number })),
+        Step::Record(k, passed, c) => met(s, camera, from, k, passed, c.at),
+        Step::Rests(c) => Looked::Found(FrameStep::Over(Place {
+            at: c.at,
+            since: c.since,
+            number: from.number,
+        })),
         // Never: the end lies within the buffer.
         Step::Refused => Looked::Found(FrameStep::Refused),
     }
@@ -216,7 +241,11 @@ fn seek(s: &[u8], end: usize, camera: Camera, from: Place) -> FrameStep
     if s.len() < end {
         return FrameStep::Refused;
     }
-    let mut p = from;
+    let mut p = Place {
+        at: from.at,
+        since: lesser(from.since, from.at),
+        number: from.number,
+    };
     loop {
         let l = look(s, end, camera, p);
         match l {

@@ -1,8 +1,7 @@
 // What a host links of the frame walks: numbers and slices in, a status and lent places out (include/brinethimble.h).
-ghost use Prim.Native.Nat.{ℕ};
 ghost use mathlib.Core.Path.{_≡_};
 ghost use Rattle.steps.specs.Next.{Cursor, cursor};
-ghost use Rattle.frame_walks.specs.Frames.{sonyStep, arriStep, canonStep};
+ghost use Rattle.frame_walks.specs.Frames.{Carried, carried, sonyStep, arriStep, canonStep};
 ghost use Rattle.frame_walks.specs.Told.{told};
 ghost use Rattle.host_frames.specs.Places.{statusOf, placesOf};
 use frame_walks::Arri;
@@ -13,12 +12,12 @@ use frame_walks::Sony;
 use host_numbers::mark;
 
 // Puts what a step found, whatever cursor it was given, and answers its status.
-fn put(t: FrameStep, out: &mut [u64; 8]) -> u32
-    ensures { λ r. ⌜ ((k : Cursor ℕ) → r ≡ statusOf (told k t)) ⌝ }
-    ensures { λ r. ⌜ ((k : Cursor ℕ) → now (out .exit) ≡ placesOf (told k t) (now (out .entry))) ⌝ }
+fn put(t: FrameStep, out: &mut [u64; 10]) -> u32
+    ensures { λ r. ⌜ ((k : Cursor Carried) → r ≡ statusOf (told k t)) ⌝ }
+    ensures { λ r. ⌜ ((k : Cursor Carried) → now (out .exit) ≡ placesOf (told k t) (now (out .entry))) ⌝ }
 {
     match t {
-        FrameStep::Frame(f, next) => {
+        FrameStep::Frame(f, passed, next) => {
             let k = f.element;
             let overlong = mark(f.overlong);
             *out = [
@@ -30,10 +29,12 @@ fn put(t: FrameStep, out: &mut [u64; 8]) -> u32
                 overlong,
                 next.at as u64,
                 next.number,
+                passed as u64,
+                next.since as u64,
             ];
             0
         }
-        FrameStep::Given(k, next) => {
+        FrameStep::Given(k, passed, next) => {
             *out = [
                 2,
                 0,
@@ -43,11 +44,24 @@ fn put(t: FrameStep, out: &mut [u64; 8]) -> u32
                 0,
                 next.at as u64,
                 next.number,
+                passed as u64,
+                next.since as u64,
             ];
             0
         }
         FrameStep::Over(next) => {
-            *out = [0, 0, 0, 0, 0, 0, next.at as u64, next.number];
+            *out = [
+                0,
+                0,
+                0,
+                0,
+                0,
+                0,
+                next.at as u64,
+                next.number,
+                0,
+                next.since as u64,
+            ];
             0
         }
         FrameStep::Refused => 1,
@@ -60,13 +74,14 @@ pub extern "C" fn brine_sony_step(
     s: &[u8],
     end: usize,
     at: usize,
+    since: usize,
     number: u64,
-    out: &mut [u64; 8],
+    out: &mut [u64; 10],
 ) -> u32
-    ensures { λ r. ⌜ r ≡ statusOf (sonyStep (now (s .entry)) end (cursor at number)) ⌝ }
-    ensures { λ r. ⌜ now (out .exit) ≡ placesOf (sonyStep (now (s .entry)) end (cursor at number)) (now (out .entry)) ⌝ }
+    ensures { λ r. ⌜ r ≡ statusOf (sonyStep (now (s .entry)) end (cursor at (carried since number))) ⌝ }
+    ensures { λ r. ⌜ now (out .exit) ≡ placesOf (sonyStep (now (s .entry)) end (cursor at (carried since number))) (now (out .entry)) ⌝ }
 {
-    let place = Place { at, number };
+    let place = Place { at, since, number };
     let t = Sony { place }.step(s, end);
     put(t, out)
 }
@@ -77,13 +92,14 @@ pub extern "C" fn brine_arri_step(
     s: &[u8],
     end: usize,
     at: usize,
+    since: usize,
     number: u64,
-    out: &mut [u64; 8],
+    out: &mut [u64; 10],
 ) -> u32
-    ensures { λ r. ⌜ r ≡ statusOf (arriStep (now (s .entry)) end (cursor at number)) ⌝ }
-    ensures { λ r. ⌜ now (out .exit) ≡ placesOf (arriStep (now (s .entry)) end (cursor at number)) (now (out .entry)) ⌝ }
+    ensures { λ r. ⌜ r ≡ statusOf (arriStep (now (s .entry)) end (cursor at (carried since number))) ⌝ }
+    ensures { λ r. ⌜ now (out .exit) ≡ placesOf (arriStep (now (s .entry)) end (cursor at (carried since number))) (now (out .entry)) ⌝ }
 {
-    let place = Place { at, number };
+    let place = Place { at, since, number };
     let t = Arri { place }.step(s, end);
     put(t, out)
 }
@@ -94,13 +110,14 @@ pub extern "C" fn brine_canon_step(
     s: &[u8],
     end: usize,
     at: usize,
+    since: usize,
     number: u64,
-    out: &mut [u64; 8],
+    out: &mut [u64; 10],
 ) -> u32
-    ensures { λ r. ⌜ r ≡ statusOf (canonStep (now (s .entry)) end (cursor at number)) ⌝ }
-    ensures { λ r. ⌜ now (out .exit) ≡ placesOf (canonStep (now (s .entry)) end (cursor at number)) (now (out .entry)) ⌝ }
+    ensures { λ r. ⌜ r ≡ statusOf (canonStep (now (s .entry)) end (cursor at (carried since number))) ⌝ }
+    ensures { λ r. ⌜ now (out .exit) ≡ placesOf (canonStep (now (s .entry)) end (cursor at (carried since number))) (now (out .entry)) ⌝ }
 {
-    let place = Place { at, number };
+    let place = Place { at, since, number };
     let t = Canon { place }.step(s, end);
     put(t, out)
 }

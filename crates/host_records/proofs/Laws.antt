@@ -5,48 +5,52 @@ use mathlib.Core.Path.{_≡_, refl, sym, ap, _∙_}
 use mathlib.Core.List.{List, [], _∷_}
 use native.Mathlib.Omega.{arith}
 use lib.ListN.{length, set, length-set}
-use Rattle.steps.specs.Told.{Told, found, nothing, refused, number}
+use Rattle.steps.specs.Told.{found, nothing, refused, number}
+use Rattle.steps.specs.Next.{Cursor}
+use Rattle.steps.specs.Passed.{Passed}
 use Rattle.steps.specs.Listed.{before, atMost, onward, endAtMost}
 use Rattle.host_numbers.specs.Numbers.{mark}
 use Rattle.klv.specs.declared.Klv.{Klv}
 use Rattle.klv.specs.Item.{Item}
 use Rattle.host_records.specs.declared.Batch.{Batch}
-use Rattle.host_records.specs.Batch.{placesEach, recordPut, recordsPut, batch, batchOf, batchInto, batchSaid, batchPlaces}
+use Rattle.host_records.specs.Batch.{RecordTold, placesEach, recordPut, recordsPut, batch, batchAt, batchOf, batchInto, batchSaid, batchPlaces}
 
 -- a record's places leave the room as long as it was
-pub length-put : (k : Klv) (at : ℕ) (lent : List ℕ) → length (recordPut k at lent) ≡ length lent
-length-put k at lent =
+pub length-put : (k : Klv) (n at : ℕ) (lent : List ℕ) → length (recordPut k n at lent) ≡ length lent
+length-put k n at lent =
     let a = set lent at (k .at) in
     let b = set a (at + 1) (k .value) in
     let c = set b (at + 2) (k .len) in
     let d = set c (at + 3) (k .size) in
-    length-set d (at + 4) (mark (k .shortest)) ∙ length-set c (at + 3) (k .size) ∙ length-set b (at + 2) (k .len) ∙ length-set a (at + 1) (k .value) ∙ length-set lent at (k .at)
+    let e = set d (at + 4) (mark (k .shortest)) in
+    length-set e (at + 5) n ∙ length-set d (at + 4) (mark (k .shortest)) ∙ length-set c (at + 3) (k .size) ∙ length-set b (at + 2) (k .len)
+    ∙ length-set a (at + 1) (k .value) ∙ length-set lent at (k .at)
 
 -- a step that gives no record, and hands back the cursor q
-abbrev pub Ends : Told Item → ℕ → Type 0
-Ends (found i r) q = ⊥
+abbrev pub Ends : RecordTold → Cursor ℕ → Type 0
+Ends (found c r) q = ⊥
 Ends (nothing r) q = r ≡ q
 Ends (refused n r) q = r ≡ q
 
-module _ (step : ℕ → Told Item) where
+module _ (step : Cursor ℕ → RecordTold) where
   -- one step more
-  module _ (n p q : ℕ) where
-    list-found : (i : Item) → found i q ≡ step p → atMost step (suc n) p ≡ i ∷ atMost step n q
+  module _ (n : ℕ) (p q : Cursor ℕ) where
+    list-found : (c : Passed Item) → found c q ≡ step p → atMost step (suc n) p ≡ c ∷ atMost step n q
     unfolding atMost before
-    list-found i f = rw (sym f) refl
+    list-found c f = rw (sym f) refl
 
-    end-found : (i : Item) → found i q ≡ step p → endAtMost step (suc n) p ≡ endAtMost step n q
+    end-found : (c : Passed Item) → found c q ≡ step p → endAtMost step (suc n) p ≡ endAtMost step n q
     unfolding endAtMost onward
-    end-found i f = rw (sym f) refl
+    end-found c f = rw (sym f) refl
 
-    list-ends : (t : Told Item) → t ≡ step p → Ends t q → (atMost step (suc n) p ≡ []) × (endAtMost step (suc n) p ≡ q)
+    list-ends : (t : RecordTold) → t ≡ step p → Ends t q → (atMost step (suc n) p ≡ []) × (endAtMost step (suc n) p ≡ q)
     unfolding atMost before endAtMost onward
-    list-ends (found i r) f e = absurd e
+    list-ends (found c r) f e = absurd e
     list-ends (nothing r) f e = (rw (sym f) refl, rw (sym f) e)
     list-ends (refused m r) f e = (rw (sym f) refl, rw (sym f) e)
 
   -- `count` records were put, there is room for `left` more, and the next step starts at p
-  pub record Going (lent₀ : List ℕ) (p₀ : ℕ) (lent : List ℕ) (left count p : ℕ) : Type 0 where
+  pub record Going (lent₀ : List ℕ) (p₀ : Cursor ℕ) (lent : List ℕ) (left count : ℕ) (p : Cursor ℕ) : Type 0 where
     pub put : recordsPut (atMost step left p) (placesEach * count) lent ≡ recordsPut (batch step lent₀ p₀) 0 lent₀
     pub counted : count + length (atMost step left p) ≡ length (batch step lent₀ p₀)
     pub ends : endAtMost step left p ≡ endAtMost step (length lent₀ / placesEach) p₀
@@ -54,40 +58,42 @@ module _ (step : ℕ → Told Item) where
     pub room : count + left ≡ length lent₀ / placesEach
 
   -- the answer, and the room after it
-  abbrev pub Put : List ℕ → ℕ → List ℕ → Batch → Type 0
+  abbrev pub Put : List ℕ → Cursor ℕ → List ℕ → Batch → Type 0
   Put lent₀ p₀ lent b = (b ≡ batchOf step (length lent₀ / placesEach) p₀) × (lent ≡ recordsPut (batch step lent₀ p₀) 0 lent₀)
 
-  module _ (lent₀ : List ℕ) (p₀ : ℕ) where
+  module _ (lent₀ : List ℕ) (p₀ : Cursor ℕ) where
     -- an answer by its count and its next cursor
-    batch-is : {count next : ℕ} → count ≡ length (batch step lent₀ p₀) → next ≡ endAtMost step (length lent₀ / placesEach) p₀ → _≡_ {A = Batch} (record { count = count; next = next }) (batchOf step (length lent₀ / placesEach) p₀)
+    batch-is : {count : ℕ} {next : Cursor ℕ} → count ≡ length (batch step lent₀ p₀) → next ≡ endAtMost step (length lent₀ / placesEach) p₀
+        → batchAt count next ≡ batchOf step (length lent₀ / placesEach) p₀
     unfolding batch
-    batch-is c n = λ i. record { count = c i; next = n i }
+    batch-is c n = λ i. batchAt (c i) (n i)
 
     pub going-start : Going lent₀ p₀ lent₀ (length lent₀ / placesEach) 0 p₀
     unfolding batch
     going-start = record { put = refl; counted = omega arith; ends = refl; same = refl; room = omega arith }
 
-    module _ (lent : List ℕ) (count p : ℕ) where
+    module _ (lent : List ℕ) (count : ℕ) (p : Cursor ℕ) where
       -- one more record has room
-      pub going-fits : (left : ℕ) → Going lent₀ p₀ lent left count p → 0 < left → placesEach * count + 4 < length lent
+      pub going-fits : (left : ℕ) → Going lent₀ p₀ lent left count p → 0 < left → placesEach * count + 5 < length lent
       going-fits left g h = omega (arith, g .same, g .room)
 
-      pub going-next : (i : Item) (q left : ℕ) → Going lent₀ p₀ lent left count p → 0 < left → found i q ≡ step p → Going lent₀ p₀ (recordPut (i .klv) (placesEach * count) lent) (left - 1) (count + 1) q
+      pub going-next : (c : Passed Item) (q : Cursor ℕ) (left : ℕ) → Going lent₀ p₀ lent left count p → 0 < left → found c q ≡ step p
+          → Going lent₀ p₀ (recordPut (c .it .klv) (c .passed) (placesEach * count) lent) (left - 1) (count + 1) q
       unfolding recordsPut
-      going-next i q zero g h f = absurd (omega arith)
-      going-next i q (suc n) g h f =
+      going-next c q zero g h f = absurd (omega arith)
+      going-next c q (suc n) g h f =
           let less : suc n - 1 ≡ n = omega arith in
           let more : placesEach * (count + 1) ≡ placesEach * count + placesEach = omega arith in
           record {
-            put = rw (less, more) (rw (list-found n p q i f) at (g .put));
-            counted = rw less (omega (arith, rw (list-found n p q i f) at (g .counted)));
-            ends = rw less (sym (end-found n p q i f) ∙ g .ends);
-            same = length-put (i .klv) (placesEach * count) lent ∙ g .same;
+            put = rw (less, more) (rw (list-found n p q c f) at (g .put));
+            counted = rw less (omega (arith, rw (list-found n p q c f) at (g .counted)));
+            ends = rw less (sym (end-found n p q c f) ∙ g .ends);
+            same = length-put (c .it .klv) (c .passed) (placesEach * count) lent ∙ g .same;
             room = omega (arith, g .room);
           }
 
       -- no record comes
-      pub going-ends : (t : Told Item) (q left : ℕ) → Going lent₀ p₀ lent left count p → 0 < left → t ≡ step p → Ends t q → Put lent₀ p₀ lent (record { count = count; next = q })
+      pub going-ends : (t : RecordTold) (q : Cursor ℕ) (left : ℕ) → Going lent₀ p₀ lent left count p → 0 < left → t ≡ step p → Ends t q → Put lent₀ p₀ lent (batchAt count q)
       unfolding recordsPut
       going-ends t q zero g h f e = absurd (omega arith)
       going-ends t q (suc n) g h f e =
@@ -97,27 +103,27 @@ module _ (step : ℕ → Told Item) where
           (batch-is all ends, rw (none .0) at (g .put))
 
       -- there is no room for more
-      pub going-full : (left : ℕ) → Going lent₀ p₀ lent left count p → left ≡ 0 → Put lent₀ p₀ lent (record { count = count; next = p })
+      pub going-full : (left : ℕ) → Going lent₀ p₀ lent left count p → left ≡ 0 → Put lent₀ p₀ lent (batchAt count p)
       unfolding recordsPut atMost endAtMost
       going-full zero g h =
           (batch-is (omega (arith, g .counted)) (g .ends), g .put)
       going-full (suc n) g h = absurd (omega arith)
 
   -- what the exported calls answer, by what the first step says
-  module _ (lent out : List ℕ) (p : ℕ) where
+  module _ (lent out : List ℕ) (p : Cursor ℕ) where
     -- the status, the lent room and the places after a call
     abbrev pub Answered : ℕ → List ℕ → List ℕ → Type 0
     Answered status lent′ out′ = (status ≡ number (step p)) × ((lent′ ≡ batchInto step p lent (step p)) × (out′ ≡ batchPlaces step (length lent / placesEach) p out (step p)))
 
-    pub answered-refused : (n q : ℕ) → step p ≡ refused n q → Answered n lent out
+    pub answered-refused : (n : ℕ) (q : Cursor ℕ) → step p ≡ refused n q → Answered n lent out
     unfolding number batchInto batchPlaces
     answered-refused n q e = rw e (refl, (refl, refl))
 
-    pub answered-put : (lent′ : List ℕ) (b : Batch) → ((n q : ℕ) → step p ≡ refused n q → ⊥) → Put lent p lent′ b → Answered 0 lent′ (batchSaid b)
+    pub answered-put : (lent′ : List ℕ) (b : Batch) → ((n : ℕ) (q : Cursor ℕ) → step p ≡ refused n q → ⊥) → Put lent p lent′ b → Answered 0 lent′ (batchSaid b)
     unfolding number batchInto batchPlaces
     answered-put lent′ b never u = go (step p) refl
       where
-        go : (t : Told Item) → step p ≡ t → Answered 0 lent′ (batchSaid b)
-        go (found i q) e = rw e (refl, (u .1, ap batchSaid (u .0)))
+        go : (t : RecordTold) → step p ≡ t → Answered 0 lent′ (batchSaid b)
+        go (found c q) e = rw e (refl, (u .1, ap batchSaid (u .0)))
         go (nothing q) e = rw e (refl, (u .1, ap batchSaid (u .0)))
         go (refused n q) e = absurd (never n q e)

@@ -2,7 +2,9 @@
 use Prim.Native.Nat.{ℕ, _+_, _/_}
 use mathlib.Core.List.{List, [], _∷_}
 use lib.ListN.{length, set}
-use Rattle.steps.specs.Told.{Told, found, nothing, refused}
+use Rattle.steps.specs.Told.{ToldAt, found, nothing, refused}
+use Rattle.steps.specs.Next.{Cursor}
+use Rattle.steps.specs.Passed.{Passed}
 use Rattle.steps.specs.Listed.{atMost, endAtMost}
 use Rattle.host_numbers.specs.Numbers.{mark}
 use Rattle.klv.specs.declared.Klv.{Klv}
@@ -12,40 +14,48 @@ use Rattle.host_records.specs.declared.Batch.{Batch}
 
 -- how many places a record takes
 abbrev pub placesEach : ℕ
-placesEach = 5
+placesEach = 6
 
--- a record's place, its value's place and length, the bytes of its length field and whether they are the shortest form, from a
--- place on
-abbrev pub recordPut : Klv → ℕ → List ℕ → List ℕ
-recordPut k at lent = set (set (set (set (set lent at (k .at)) (at + 1) (k .value)) (at + 2) (k .len)) (at + 3) (k .size)) (at + 4) (mark (k .shortest))
+-- what a step says of a walk's records
+abbrev pub RecordTold : Type 0
+RecordTold = ToldAt (Cursor ℕ) (Passed Item)
+
+-- a record's place, its value's place and length, the bytes of its length field and whether they are the shortest form, and the
+-- bytes passed before it, from a place on
+abbrev pub recordPut : Klv → ℕ → ℕ → List ℕ → List ℕ
+recordPut k n at lent =
+    set (set (set (set (set (set lent at (k .at)) (at + 1) (k .value)) (at + 2) (k .len)) (at + 3) (k .size)) (at + 4) (mark (k .shortest))) (at + 5) n
 
 -- records one behind the other from a place on
-unfoldable pub recordsPut : List Item → ℕ → List ℕ → List ℕ
+unfoldable pub recordsPut : List (Passed Item) → ℕ → List ℕ → List ℕ
 recordsPut [] at lent = lent
-recordsPut (i ∷ l) at lent = recordsPut l (at + placesEach) (recordPut (i .klv) at lent)
+recordsPut (c ∷ l) at lent = recordsPut l (at + placesEach) (recordPut (c .it .klv) (c .passed) at lent)
 
--- the steps from p on that there is room for
-unfoldable pub batch : (ℕ → Told Item) → List ℕ → ℕ → List Item
-batch step lent p = atMost step (length lent / placesEach) p
+-- the steps from a cursor on that there is room for
+unfoldable pub batch : (Cursor ℕ → RecordTold) → List ℕ → Cursor ℕ → List (Passed Item)
+batch step lent k = atMost step (length lent / placesEach) k
 
 -- how many records that gives, and where the last of these steps leads
-abbrev pub batchOf : (ℕ → Told Item) → ℕ → ℕ → Batch
-batchOf step room p = record { count = length (atMost step room p); next = endAtMost step room p }
+abbrev pub batchAt : ℕ → Cursor ℕ → Batch
+batchAt n k = record { count = n; next = k .at; since = k .carried }
+
+abbrev pub batchOf : (Cursor ℕ → RecordTold) → ℕ → Cursor ℕ → Batch
+batchOf step room k = batchAt (length (atMost step room k)) (endAtMost step room k)
 
 -- the lent room after a call: as it was where the step is refused
-unfoldable pub batchInto : (ℕ → Told Item) → ℕ → List ℕ → Told Item → List ℕ
-batchInto step p lent (found i q) = recordsPut (batch step lent p) 0 lent
-batchInto step p lent (nothing q) = recordsPut (batch step lent p) 0 lent
-batchInto step p lent (refused n q) = lent
+unfoldable pub batchInto : (Cursor ℕ → RecordTold) → Cursor ℕ → List ℕ → RecordTold → List ℕ
+batchInto step k lent (found c q) = recordsPut (batch step lent k) 0 lent
+batchInto step k lent (nothing q) = recordsPut (batch step lent k) 0 lent
+batchInto step k lent (refused n q) = lent
 
--- the count and the next cursor, likewise
+-- the count, the next cursor and the place where walking last went on, likewise
 abbrev pub batchSaid : Batch → List ℕ
-batchSaid b = b .count ∷ b .next ∷ []
+batchSaid b = b .count ∷ b .next ∷ b .since ∷ []
 
-unfoldable pub batchPlaces : (ℕ → Told Item) → ℕ → ℕ → List ℕ → Told Item → List ℕ
-batchPlaces step room p out (found i q) = batchSaid (batchOf step room p)
-batchPlaces step room p out (nothing q) = batchSaid (batchOf step room p)
-batchPlaces step room p out (refused n q) = out
+unfoldable pub batchPlaces : (Cursor ℕ → RecordTold) → ℕ → Cursor ℕ → List ℕ → RecordTold → List ℕ
+batchPlaces step room k out (found c q) = batchSaid (batchOf step room k)
+batchPlaces step room k out (nothing q) = batchSaid (batchOf step room k)
+batchPlaces step room k out (refused n q) = out
 
 -- how many groups there are, and how many records are in none
 abbrev pub tallyPlaces : Tally → List ℕ

@@ -1,12 +1,17 @@
 // What a host links of the walk: numbers and slices in, a status and lent places out (include/brinethimble.h).
+ghost use Prim.Native.Nat.{ℕ};
 ghost use mathlib.Core.Path.{_≡_};
+ghost use mathlib.Core.List.{List};
 ghost use Rattle.steps.specs.Told.{number};
 ghost use Rattle.lengths.specs.Length.{lengthAt};
 ghost use Rattle.labels.specs.Label.{sameLabel};
 ghost use Rattle.search.specs.Search.{nextKey};
 ghost use Rattle.items.specs.Items.{itemStep, runStep};
-ghost use Rattle.walk.specs.Walk.{finishedStep, arrivingStep};
-ghost use Rattle.host_walk.specs.Places.{klvPlaces, itemPlaces, lengthPlaces};
+ghost use Rattle.steps.specs.Next as at;
+ghost use Rattle.steps.specs.Next.{cursor};
+ghost use Rattle.walk.specs.Passed.{finishedPassing, arrivingPassing};
+ghost use Rattle.walk.specs.Told.{told};
+ghost use Rattle.host_walk.specs.Places.{klvPlaces, itemPlaces, stepPlaces, lengthPlaces};
 use host_numbers::mark;
 use items::Coding;
 use items::Local;
@@ -68,44 +73,65 @@ pub extern "C" fn brine_next_key(s: &[u8], end: usize, from: usize) -> usize
     search::next_key(s, end, from)
 }
 
-// A step of the finished walk.
-#[no_mangle]
-pub extern "C" fn brine_step(s: &[u8], end: usize, at: usize, out: &mut [u64; 7]) -> u32
-    ensures { λ r. ⌜ r ≡ number (finishedStep (now (s .entry)) end at) ⌝ }
-    ensures { λ r. ⌜ now (out .exit) ≡ itemPlaces (finishedStep (now (s .entry)) end at) (now (out .entry)) ⌝ }
+// Puts what a walk's step found, whatever cursor it was given, and answers its status, `refusal` being that of its own.
+fn put_step(t: Step, refusal: u32, out: &mut [u64; 9]) -> u32
+    ensures { λ r. ⌜ ((s : List ℕ) (k : at.Cursor ℕ) → r ≡ number (told refusal s k t)) ⌝ }
+    ensures { λ r. ⌜ ((s : List ℕ) (k : at.Cursor ℕ) → now (out .exit) ≡ stepPlaces (told refusal s k t) (now (out .entry))) ⌝ }
 {
-    let t = Cursor { at }.step(s, end);
     match t {
-        Step::Record(k, next) => {
-            put(k, next.at, out);
+        Step::Record(k, passed, next) => {
+            let shortest = mark(k.shortest);
+            *out = [
+                1,
+                k.at as u64,
+                k.value as u64,
+                k.len as u64,
+                next.at as u64,
+                k.size as u64,
+                shortest,
+                passed as u64,
+                next.since as u64,
+            ];
             0
         }
         Step::Rests(next) => {
-            *out = [0, 0, 0, 0, next.at as u64, 0, 0];
+            *out = [0, 0, 0, 0, next.at as u64, 0, 0, 0, next.since as u64];
             0
         }
-        Step::Refused => 1,
+        Step::Refused => refusal,
     }
+}
+
+// A step of the finished walk.
+#[no_mangle]
+pub extern "C" fn brine_step(
+    s: &[u8],
+    end: usize,
+    at: usize,
+    since: usize,
+    out: &mut [u64; 9],
+) -> u32
+    ensures { λ r. ⌜ r ≡ number (finishedPassing (now (s .entry)) end (cursor at since)) ⌝ }
+    ensures { λ r. ⌜ now (out .exit) ≡ stepPlaces (finishedPassing (now (s .entry)) end (cursor at since)) (now (out .entry)) ⌝ }
+{
+    let t = Cursor { at, since }.step(s, end);
+    put_step(t, 1, out)
 }
 
 // A step of the arriving walk.
 #[no_mangle]
-pub extern "C" fn brine_arrive(a: &[u8], limit: usize, at: usize, out: &mut [u64; 7]) -> u32
-    ensures { λ r. ⌜ r ≡ number (arrivingStep limit (now (a .entry)) at) ⌝ }
-    ensures { λ r. ⌜ now (out .exit) ≡ itemPlaces (arrivingStep limit (now (a .entry)) at) (now (out .entry)) ⌝ }
+pub extern "C" fn brine_arrive(
+    a: &[u8],
+    limit: usize,
+    at: usize,
+    since: usize,
+    out: &mut [u64; 9],
+) -> u32
+    ensures { λ r. ⌜ r ≡ number (arrivingPassing limit (now (a .entry)) (cursor at since)) ⌝ }
+    ensures { λ r. ⌜ now (out .exit) ≡ stepPlaces (arrivingPassing limit (now (a .entry)) (cursor at since)) (now (out .entry)) ⌝ }
 {
-    let t = Cursor { at }.arrive(a, limit);
-    match t {
-        Step::Record(k, next) => {
-            put(k, next.at, out);
-            0
-        }
-        Step::Rests(next) => {
-            *out = [0, 0, 0, 0, next.at as u64, 0, 0];
-            0
-        }
-        Step::Refused => 2,
-    }
+    let t = Cursor { at, since }.arrive(a, limit);
+    put_step(t, 2, out)
 }
 
 // A step of a run.

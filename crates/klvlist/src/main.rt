@@ -7,16 +7,16 @@ ghost use Rattle.io.specs.Counts.{Counts};
 ghost use Rattle.listing.specs.Listing.{printed};
 
 // Room for the listing of 65,536 bytes.
-fn room() -> [u8; 393216]
-    ensures { λ r. ⌜ 393216 ≡ length r ⌝ }
+fn room() -> [u8; 458752]
+    ensures { λ r. ⌜ 458752 ≡ length r ⌝ }
 {
-    [0; 393216]
+    [0; 458752]
 }
 
 // Puts the whole of what the program prints at the start of out, and answers how long it is.
 fn put_whole(s: &[u8], more: bool, out: &mut [u8]) -> usize
     requires { ⌜ length (now s) ≤ 65536 ⌝ }
-    requires { ⌜ 393216 ≤ length (now out) ⌝ }
+    requires { ⌜ 458752 ≤ length (now out) ⌝ }
     ensures { λ r. ⌜ take r (now (out .exit)) ≡ printed (now (s .entry)) more ⌝ }
     ensures { λ r. ⌜ Counts r (now (out .exit)) ⌝ }
 {

@@ -4,17 +4,22 @@ use mathlib.Core.List.{List, [], _∷_, _++_}
 use mathlib.Core.Bool.{Bool, cond}
 use lib.Dec.{eqb}
 use lib.ListN.{length}
+use Rattle.steps.specs.Passed.{Passed}
 use Rattle.klv.specs.Item.{Item}
 use Rattle.records.specs.Records.{finished}
+use Rattle.records.specs.Passed.{atFirst, finishedPassed}
 use Rattle.tally.specs.Groups.{Groups, groupsOf}
 use Rattle.text.specs.Write.{decimalOf}
-use Rattle.klv_text.specs.Text.{itemText}
+use Rattle.klv_text.specs.Text.{recordText}
 use Rattle.tally_text.specs.Groups.{groupsText}
 
--- a line for each record
-unfoldable pub recordLines : List Item → List ℕ
+-- a line for each record, the bytes passed before it last
+abbrev pub recordLine : Passed Item → List ℕ
+recordLine c = recordText 32 (c .it .key) (c .it .klv) (c .passed) ++ (10 ∷ [])
+
+unfoldable pub recordLines : List (Passed Item) → List ℕ
 recordLines [] = []
-recordLines (i ∷ l) = itemText 32 i ++ (10 ∷ []) ++ recordLines l
+recordLines (c ∷ l) = recordLine c ++ recordLines l
 
 -- `records N`
 unfoldable pub countLine : ℕ → List ℕ
@@ -30,7 +35,7 @@ tallyLines s g = groupsText (108 ∷ 97 ∷ 98 ∷ 101 ∷ 108 ∷ 32 ∷ []) 32
 
 -- the whole text for s
 unfoldable pub listingOf : List ℕ → List ℕ
-listingOf s = recordLines (finished s) ++ countLine (length (finished s)) ++ tallyLines s (groupsOf s)
+listingOf s = recordLines (finishedPassed s (length s) atFirst) ++ countLine (length (finished s)) ++ tallyLines s (groupsOf s)
 
 -- `too long`
 abbrev pub tooLong : List ℕ

@@ -4,9 +4,10 @@ ghost use mathlib.Core.Path.{_≡_};
 ghost use lib.ListN.{length};
 ghost use Rattle.text.specs.Write.{Put};
 ghost use Rattle.records.specs.Records.{finished};
+ghost use Rattle.records.specs.Passed.{atFirst, finishedPassed};
 ghost use Rattle.tally.specs.Groups.{groupsOf};
 ghost use Rattle.listing.specs.Listing.{recordLines, countLine, otherLine, tallyLines, listingOf, printed};
-use klv_text::put_klv;
+use klv_text::put_record;
 use text::put_all;
 use text::put_byte;
 use text::put_decimal;
@@ -22,22 +23,21 @@ struct Lines {
 // Puts a line for each record of the finished walk over s.
 fn put_records(out: &mut [u8], at: usize, s: &[u8]) -> Lines
     ensures { λ r. ⌜ r .records ≡ length (finished (now (s .entry))) ⌝ }
-    ensures { λ r. ⌜ Put (recordLines (finished (now (s .entry)))) (now (out .entry)) at (now (out .exit)) (r .at) ⌝ }
+    ensures { λ r. ⌜ Put (recordLines (finishedPassed (now (s .entry)) (length (now (s .entry))) atFirst)) (now (out .entry)) at (now (out .exit)) (r .at) ⌝ }
 {
     let mut records = 0;
     let mut p = at;
-    let mut from = 0;
+    let mut k = Cursor { at: 0, since: 0 };
     loop {
-        let c = Cursor { at: from };
-        let r = c.step(s, s.len());
-        match r {
+        let t = k.step(s, s.len());
+        match t {
             Step::Rests(_) => return Lines { records, at: p },
             Step::Refused => return Lines { records, at: p },
-            Step::Record(k, next) => {
-                let a = put_klv(out, p, s, k, b' ');
+            Step::Record(r, passed, next) => {
+                let a = put_record(out, p, r.label(s), r, passed, b' ');
                 p = put_byte(out, a, b'\n');
                 records += 1;
-                from = next.at;
+                k = next;
             }
         }
     }

@@ -32,6 +32,13 @@ pub record Says (next : Item → ℕ) (s : List ℕ) (after : Walked → Told It
   pub says-stopped : (p : ℕ) → after (Stopped p) ≡ nothing p
   pub says-lost : (q : ℕ) → (w : ℕ) × (after (Lost q) ≡ nothing w)
 
+-- a step hands back the place where walking goes on
+pub found-next : (next : Item → ℕ) (s : List ℕ) (after : Walked → Told Item) → Says next s after → (w : Walked) (i : Item) (q : ℕ) → after w ≡ found i q → next i ≡ q
+found-next next s after says (Found k) i q x =
+    let y = says .says-found k in let e : item 16 s k ≡ i = cc in let f : next (item 16 s k) ≡ q = cc in sym (ap next e) ∙ f
+found-next next s after says (Stopped p) i q x = let y = says .says-stopped p in absurd (let z : _≡_ {A = ℕ} 0 1 = cc in omega arith)
+found-next next s after says (Lost p) i q x = let y = says .says-lost p .1 in absurd (let z : _≡_ {A = ℕ} 0 1 = cc in omega arith)
+
 module _ (next : Item → ℕ) (on : Onward next) (limit : ℕ) (s : List ℕ) (e : ℕ) (after : Walked → Told Item) (says : Says next s after) where
   abbrev step : ℕ → Told Item
   step p = after (walked limit s e p)

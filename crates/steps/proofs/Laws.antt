@@ -1,6 +1,6 @@
 -- A list goes as its steps say: the fuel of the definitions is enough. Assumes nothing.
 use Prim.Native.Nat.{ℕ, zero, suc, _-_, _<_}
-use mathlib.Core.Path.{_≡_, refl, sym, _∙_}
+use mathlib.Core.Path.{_≡_, refl, sym, ap, _∙_}
 use mathlib.Core.List.{List, [], _∷_}
 use native.Mathlib.Omega.{arith}
 use Rattle.steps.specs.Told.{Told, ToldAt, found, nothing, refused}
@@ -100,6 +100,18 @@ same-steps step same list end s go =
       ends = λ p l. let x = go .ends p l in (x .0, s p ∙ x .1);
       left = λ p q x. go .left p q (sym (s p) ∙ x);
       left-next = λ p a q x. go .left-next p a q (sym (s p) ∙ x);
+    }
+
+-- the same from cursors that count as others, if one that an item is followed by counts as itself
+pub steps-as : {C A : Type 0} (like : C → C) (step : C → ToldAt C A) (list : C → List A) (end : C → C)
+    → ((p : C) (a : A) (q : C) → step p ≡ found a q → like q ≡ q) → Steps step list end → Steps (λ p. step (like p)) (λ p. list (like p)) (λ p. end (like p))
+steps-as like step list end itself go =
+    record {
+      next = λ p a q x. go .next (like p) a q x ∙ ap (λ (r : _). a ∷ list r) (sym (itself (like p) a q x));
+      over = λ p q x. go .over (like p) q x;
+      ends = λ p l. go .ends (like p) l;
+      left = λ p q x. go .left (like p) q x;
+      left-next = λ p a q x. go .left-next (like p) a q x ∙ ap end (sym (itself (like p) a q x));
     }
 
 -- the list of a step that never refuses goes by it

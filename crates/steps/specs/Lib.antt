@@ -3,3 +3,4 @@ pub mod Listed
 pub mod Tells
 pub mod Next
 pub mod Steps
+pub mod Passed

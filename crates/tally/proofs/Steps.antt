@@ -1,11 +1,11 @@
 -- A step of the finished walk up to the buffer's end: the record that it gives lies from its cursor on, with the label
--- that stands there, and it refuses nothing. Assumes nothing.
+-- that stands there. Assumes nothing.
 use Prim.Native.Nat.{ℕ, _+_, _≤_}
 use mathlib.Core.Path.{_≡_, refl}
 use mathlib.Core.List.{List}
 use native.Mathlib.Omega.{arith}
 use lib.ListN.{length}
-use Rattle.steps.specs.Told.{found, refused}
+use Rattle.steps.specs.Told.{found}
 use Rattle.labels.specs.Label.{labelAt}
 use Rattle.klv.specs.Item.{Item, item, past}
 use Rattle.walk.specs.declared.Walked.{Walked}
@@ -33,11 +33,3 @@ module _ (s : List ℕ) (p : ℕ) where
           rw z at (rw y at x)
       by-walked (Stopped r) w = let f = finished-stopped s (length s) p (omega arith) r w in let z : _≡_ {A = ℕ} 0 1 = cc in absurd (omega arith)
       by-walked (Lost r) w = let f = finished-lost s (length s) p (omega arith) r w in let z : _≡_ {A = ℕ} 0 1 = cc in absurd (omega arith)
-
-  pub never-refused : (n q : ℕ) → finishedStep s (length s) p ≡ refused n q → ⊥
-  never-refused n q e = by-walked (walked 0 s (length s) p) refl
-    where
-      by-walked : (w : Walked) → walked 0 s (length s) p ≡ w → ⊥
-      by-walked (Found k) w = let f = finished-found s (length s) p (omega arith) k w in let z : _≡_ {A = ℕ} 0 1 = cc in omega arith
-      by-walked (Stopped r) w = let f = finished-stopped s (length s) p (omega arith) r w in let z : _≡_ {A = ℕ} 0 1 = cc in omega arith
-      by-walked (Lost r) w = let f = finished-lost s (length s) p (omega arith) r w in let z : _≡_ {A = ℕ} 0 1 = cc in omega arith

@@ -92,12 +92,12 @@ fn count_in(s: &[u8], firsts: &mut [usize], counts: &mut [usize]) -> Tally
     };
     let mut at = 0;
     loop {
-        let c = Cursor { at };
+        let c = Cursor { at, since: at };
         let r = c.step(s, s.len());
         match r {
             Step::Rests(_) => return t,
             Step::Refused => return t,
-            Step::Record(k, next) => {
+            Step::Record(k, _, next) => {
                 t = add(s, firsts, counts, t, k.at);
                 at = next.at;
             }

@@ -1,22 +1,24 @@
 -- The steps' answers from where the turns lead, and that two answers which say the same are the same. Assumes nothing.
-use Prim.Native.Nat.{ℕ, _≤_, _<_, max}
+use Prim.Native.Nat.{ℕ, _-_, _≤_, _<_, max}
 use mathlib.Core.Path.{_≡_, refl, sym, ap, _∙_}
 use mathlib.Core.List.{List}
 use native.Mathlib.Omega.{arith}
 use borrow.Author.Tests.{le-ltb, lt-ltb}
 use lib.ListN.{length}
-use Rattle.steps.specs.Told.{Told, found, nothing, refused}
+use Rattle.steps.specs.Told.{Told, ToldAt, found, nothing, refused}
+use Rattle.steps.specs.Next.{Cursor, cursor}
+use Rattle.steps.specs.Passed.{Passed}
 use Rattle.search.specs.Search.{waitFrom}
 use Rattle.klv.specs.declared.Klv.{Klv}
 use Rattle.klv.specs.Item.{Item, item, past}
 use Rattle.walk.specs.declared.Walked.{Walked}
 use Rattle.walk.specs.declared.Walked.the-variants.{Found, Stopped, Lost}
-use Rattle.walk.specs.declared.Way.the-variants.{Finished, Arriving}
+use Rattle.walk.specs.declared.Cursor as at
 use Rattle.walk.specs.declared.Step.{Step}
 use Rattle.walk.specs.declared.Step.the-variants as step
 use Rattle.walk.specs.Walk.{walked, finishedAfter, finishedBy, arrivingAfter, arrivingBy, stepped, finishedStep, arrivingStep}
-use Rattle.walk.specs.Told.{told, lostAt, Within, answered}
-use Rattle.walk.proofs.Walking.{walk-fits}
+use Rattle.walk.specs.Passed.{lastOn, counted, passing, finishedPassing, arrivingPassing}
+use Rattle.walk.specs.Told.{told}
 
 -- only an end past the buffer, or bytes past the limit, are refused
 
@@ -112,48 +114,86 @@ module _ (limit : ℕ) (a : List ℕ) (p : ℕ) where
     pub not-past-limit : (n q : ℕ) → arrivingStep limit a p ≡ refused n q → ⊥
     not-past-limit n q x = arriving-never stepped a limit p n q (sym arriving-within ∙ x)
 
--- Where turns lead, as a step answers it, is what the definitions say
+-- A step with its count, from where the turns lead
 
--- a record that turns lead to ends within the buffer
-pub walked-within : (limit : ℕ) (s : List ℕ) (e p : ℕ) → e ≤ length s → Within s (walked limit s e p)
-unfolding Within
-walked-within limit s e p h = go (walked limit s e p) refl
-  where
-    go : (w : Walked) → walked limit s e p ≡ w → Within s w
-    go (Found k) x = let f = walk-fits limit s e p k x in omega (arith, f .1 .there, f .1 .within)
-    go (Stopped q) x = tt
-    go (Lost q) x = tt
+module _ (k : Cursor ℕ) where
+  module _ (s : List ℕ) (e : ℕ) (h : e ≤ length s) where
+    pub finished-counts : (r : Klv) → walked 0 s e (k .at) ≡ Found r → finishedPassing s e k ≡ found (counted (lastOn k) (item 16 s r)) (cursor (past r) (past r))
+    unfolding passing
+    finished-counts r w = ap (passing k) (finished-found s e (k .at) h r w)
 
-pub answers-finished : (s : List ℕ) (e p : ℕ) → e ≤ length s → told 1 s p (answered (lostAt (Finished e) s) (walked 0 s e p)) ≡ finishedStep s e p
-unfolding answered lostAt finishedBy finishedAfter
-answers-finished s e p h = go (walked 0 s e p) ∙ sym (finished-within s e p h)
-  where
-    go : (w : Walked) → told 1 s p (answered (lostAt (Finished e) s) w) ≡ finishedAfter stepped s e w
-    go (Found k) = refl
-    go (Stopped q) = refl
-    go (Lost q) = refl
+    pub finished-rests : (q : ℕ) → walked 0 s e (k .at) ≡ Stopped q → finishedPassing s e k ≡ nothing (cursor q (lastOn k))
+    unfolding passing
+    finished-rests q w = ap (passing k) (finished-stopped s e (k .at) h q w)
 
-pub answers-arriving : (limit : ℕ) (a : List ℕ) (p : ℕ) → length a ≤ limit
-    → told 2 a p (answered (lostAt (Arriving limit) a) (walked limit a (length a) p)) ≡ arrivingStep limit a p
-unfolding answered lostAt arrivingBy arrivingAfter
-answers-arriving limit a p h = go (walked limit a (length a) p) ∙ sym (arriving-within limit a p h)
-  where
-    go : (w : Walked) → told 2 a p (answered (lostAt (Arriving limit) a) w) ≡ arrivingAfter stepped a w
-    go (Found k) = refl
-    go (Stopped q) = refl
-    go (Lost q) = refl
+    pub finished-loses : (q : ℕ) → walked 0 s e (k .at) ≡ Lost q → finishedPassing s e k ≡ nothing (cursor (max e q) (lastOn k))
+    unfolding passing
+    finished-loses q w = ap (passing k) (finished-lost s e (k .at) h q w)
+
+  module _ (limit : ℕ) (a : List ℕ) (h : length a ≤ limit) where
+    pub arriving-counts : (r : Klv) → walked limit a (length a) (k .at) ≡ Found r → arrivingPassing limit a k ≡ found (counted (lastOn k) (item 16 a r)) (cursor (past r) (past r))
+    unfolding passing
+    arriving-counts r w = ap (passing k) (arriving-found limit a (k .at) h r w)
+
+    pub arriving-rests : (q : ℕ) → walked limit a (length a) (k .at) ≡ Stopped q → arrivingPassing limit a k ≡ nothing (cursor q (lastOn k))
+    unfolding passing
+    arriving-rests q w = ap (passing k) (arriving-stopped limit a (k .at) h q w)
+
+    pub arriving-loses : (q : ℕ) → walked limit a (length a) (k .at) ≡ Lost q → arrivingPassing limit a k ≡ nothing (cursor (waitFrom a q) (lastOn k))
+    unfolding passing
+    arriving-loses q w = ap (passing k) (arriving-lost limit a (k .at) h q w)
+
+  pub finished-refuses : (s : List ℕ) (e : ℕ) → length s < e → finishedPassing s e k ≡ refused 1 k
+  unfolding passing
+  finished-refuses s e h = ap (passing k) (finished-refused s e (k .at) h)
+
+  pub arriving-refuses : (limit : ℕ) (a : List ℕ) → limit < length a → arrivingPassing limit a k ≡ refused 2 k
+  unfolding passing
+  arriving-refuses limit a h = ap (passing k) (arriving-refused limit a (k .at) h)
+
+-- What a counted step says of the plain one
+
+pub record Counts (k : Cursor ℕ) (t : Told Item) (c : Passed Item) (q : Cursor ℕ) : Type 0 where
+  pub plain : t ≡ found (c .it) (q .at)
+  pub count : c .passed ≡ c .it .klv .at - lastOn k
+  pub here : q .carried ≡ q .at
+
+pub passing-found : (k : Cursor ℕ) (t : Told Item) (c : Passed Item) (q : Cursor ℕ) → found c q ≡ passing k t → Counts k t c q
+unfolding passing
+passing-found k (found i r) c q x =
+    let y : c ≡ counted (lastOn k) i = cc in
+    let z : q ≡ cursor r r = cc in
+    rw (y, z) (record { plain = refl; count = refl; here = refl })
+passing-found k (nothing r) c q x = absurd (let z : _≡_ {A = ℕ} 0 1 = cc in omega arith)
+passing-found k (refused n r) c q x = absurd (let z : _≡_ {A = ℕ} 0 1 = cc in omega arith)
+
+pub passing-nothing : (k : Cursor ℕ) (t : Told Item) (q : Cursor ℕ) → nothing q ≡ passing k t → (t ≡ nothing (q .at)) × (q .carried ≡ lastOn k)
+unfolding passing
+passing-nothing k (found i r) q x = absurd (let z : _≡_ {A = ℕ} 0 1 = cc in omega arith)
+passing-nothing k (nothing r) q x = let z : q ≡ cursor r (lastOn k) = cc in rw z (refl, refl)
+passing-nothing k (refused n r) q x = absurd (let z : _≡_ {A = ℕ} 0 1 = cc in omega arith)
+
+-- one within the buffer, or the limit, refuses nothing
+pub passing-never : (k : Cursor ℕ) (t : Told Item) → ((n q : ℕ) → t ≡ refused n q → ⊥) → (n : ℕ) (q : Cursor ℕ) → refused n q ≡ passing k t → ⊥
+unfolding passing
+passing-never k (found i r) never n q x = let z : _≡_ {A = ℕ} 0 1 = cc in omega arith
+passing-never k (nothing r) never n q x = let z : _≡_ {A = ℕ} 0 1 = cc in omega arith
+passing-never k (refused m r) never n q x = never m r refl
+
+abbrev place : Cursor ℕ → at.Cursor
+place c = record { at = c .at; since = c .carried }
 
 -- two answers of a step that say the same are the same
-pub step-once : (n : ℕ) (s : List ℕ) (p : ℕ) (a b : Step) → told n s p a ≡ told n s p b → a ≡ b
-step-once n s p a b x = back a ∙ ap answer x ∙ sym (back b)
+pub step-once : (n : ℕ) (s : List ℕ) (k : Cursor ℕ) (a b : Step) → told n s k a ≡ told n s k b → a ≡ b
+step-once n s k a b x = back a ∙ ap answer x ∙ sym (back b)
   where
     -- what is said gives the answer back
-    answer : Told Item → Step
-    answer (found i q) = step.Record (i .klv) (record { at = q })
-    answer (nothing q) = step.Rests (record { at = q })
+    answer : ToldAt (Cursor ℕ) (Passed Item) → Step
+    answer (found i q) = step.Record (i .it .klv) (i .passed) (place q)
+    answer (nothing q) = step.Rests (place q)
     answer (refused m q) = step.Refused
 
-    back : (a : Step) → a ≡ answer (told n s p a)
-    back (step.Record k c) = refl
+    back : (a : Step) → a ≡ answer (told n s k a)
+    back (step.Record r m c) = refl
     back (step.Rests c) = refl
     back step.Refused = refl

@@ -102,6 +102,7 @@ pub record Fit (s : List ℕ) (e p : ℕ) (r : Klv) : Type 0 where
   pub here : r .at ≡ p
   pub before : p + 17 ≤ e
   pub start : p + 17 ≤ r .value
+  pub field : r .value ≡ r .at + 16 + r .size
   pub there : r .value ≤ length s
   pub within : r .len ≤ e - r .value
 

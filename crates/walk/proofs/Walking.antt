@@ -93,4 +93,4 @@ module _ (limit : ℕ) (s : List ℕ) (e : ℕ) where
   walk-fits p k x =
       let f = found-from (suc (e - p)) p k x in
       let fit = rules-record limit s e (f .0) k (f .2) in
-      (omega arith, record { here = refl; before = omega arith; start = omega arith; there = fit .there; within = fit .within })
+      (omega arith, record { here = refl; before = omega arith; start = omega arith; field = fit .field; there = fit .there; within = fit .within })

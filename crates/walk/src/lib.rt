@@ -5,10 +5,12 @@ ghost use Prim.Native.Nat.{_≤_, max};
 ghost use lib.ListN.{length};
 ghost use Rattle.walk.specs.Rules.{rules};
 ghost use Rattle.walk.specs.declared.Turn.the-variants as turn;
-ghost use Rattle.walk.specs.Walk.{onTurn, walked, finishedStep, arrivingStep};
-ghost use Rattle.walk.specs.Told.{told, refusal, stepOn, lostAt, Within, answered};
+ghost use Rattle.walk.specs.Walk.{onTurn, walked};
+ghost use Rattle.walk.specs.Passed.{finishedPassing, arrivingPassing};
+ghost use Rattle.walk.specs.Told.{cursorOf, told, refusal, stepOn, recordStep};
 use klv::Klv;
 use lengths::Length;
+use parts::lesser;
 use parts::saturating_sub;
 
 // The larger of two.
@@ -116,73 +118,76 @@ pub enum Way {
     Arriving(usize),
 }
 
-// Where a walk stands.
+// Where a walk stands, and where walking last went on.
 pub struct Cursor {
     pub at: usize,
+    pub since: usize,
 }
 
 // What a step of a walk finds.
 pub enum Step {
-    // A record, and the cursor past it.
-    Record(Klv, Cursor),
+    // A record, the bytes passed before it, and the cursor past it.
+    Record(Klv, usize, Cursor),
     // No record: the finished walk is over; the arriving walk waits, and its step is to be made again from this cursor.
     Rests(Cursor),
     // The end is larger than the buffer, or there are more bytes than the limit.
     Refused,
 }
 
-// Where a search from q on that finds no key leaves a walk.
-fn lost(s: &[u8], way: Way, q: usize) -> usize
-    ensures { λ r. ⌜ r ≡ lostAt way (now (s .entry)) q ⌝ }
+// A record, walking having last gone on at `since`; its value ends at `next`, where walking goes on.
+fn found(k: Klv, since: usize, next: usize) -> Step
+    ensures { λ r. ⌜ r ≡ recordStep k since next ⌝ }
 {
-    match way {
-        Way::Finished(end) => larger(end, q),
-        Way::Arriving(_) => search::wait_from(s, q),
-    }
-}
-
-// What a walk's step finds where its turns lead.
-fn answer(s: &[u8], way: Way, w: Walked) -> Step
-    requires { ⌜ Within (now s) w ⌝ }
-    ensures { λ r. ⌜ r ≡ answered (lostAt way (now (s .entry))) w ⌝ }
-{
-    match w {
-        Walked::Found(k) => {
-            let next = k.value + k.len;
-            Step::Record(k, Cursor { at: next })
-        }
-        Walked::Stopped(p) => Step::Rests(Cursor { at: p }),
-        Walked::Lost(q) => {
-            let at = lost(s, way, q);
-            Step::Rests(Cursor { at })
-        }
-    }
+    let passed = saturating_sub(k.at, since);
+    let past = Cursor {
+        at: next,
+        since: next,
+    };
+    Step::Record(k, passed, past)
 }
 
 impl Cursor {
     // A step of the finished walk: the next record wholly before the end.
     pub fn step(self, s: &[u8], end: usize) -> Step
-        ensures { λ r. ⌜ told 1 (now (s .entry)) (self .at) r ≡ finishedStep (now (s .entry)) end (self .at) ⌝ }
+        ensures { λ r. ⌜ told 1 (now (s .entry)) (cursorOf self) r ≡ finishedPassing (now (s .entry)) end (cursorOf self) ⌝ }
     {
         if s.len() < end {
             return Step::Refused;
         }
-        answer(s, Way::Finished(end), turns(s, end, 0, self.at))
+        let since = lesser(self.since, self.at);
+        let w = turns(s, end, 0, self.at);
+        match w {
+            Walked::Found(k) => found(k, since, k.value + k.len),
+            Walked::Stopped(p) => Step::Rests(Cursor { at: p, since }),
+            Walked::Lost(q) => {
+                let at = larger(end, q);
+                Step::Rests(Cursor { at, since })
+            }
+        }
     }
 
     // A step of the arriving walk: the next record that no later byte, within the limit, can unsay.
     pub fn arrive(self, a: &[u8], limit: usize) -> Step
-        ensures { λ r. ⌜ told 2 (now (a .entry)) (self .at) r ≡ arrivingStep limit (now (a .entry)) (self .at) ⌝ }
+        ensures { λ r. ⌜ told 2 (now (a .entry)) (cursorOf self) r ≡ arrivingPassing limit (now (a .entry)) (cursorOf self) ⌝ }
     {
         if limit < a.len() {
             return Step::Refused;
         }
-        answer(a, Way::Arriving(limit), turns(a, a.len(), limit, self.at))
+        let since = lesser(self.since, self.at);
+        let w = turns(a, a.len(), limit, self.at);
+        match w {
+            Walked::Found(k) => found(k, since, k.value + k.len),
+            Walked::Stopped(p) => Step::Rests(Cursor { at: p, since }),
+            Walked::Lost(q) => {
+                let at = search::wait_from(a, q);
+                Step::Rests(Cursor { at, since })
+            }
+        }
     }
 
     // A step of either walk.
     pub fn on(self, s: &[u8], way: Way) -> Step
-        ensures { λ r. ⌜ told (refusal way) (now (s .entry)) (self .at) r ≡ stepOn way (now (s .entry)) (self .at) ⌝ }
+        ensures { λ r. ⌜ told (refusal way) (now (s .entry)) (cursorOf self) r ≡ stepOn way (now (s .entry)) (cursorOf self) ⌝ }
     {
         match way {
             Way::Finished(end) => self.step(s, end),

@@ -6,9 +6,17 @@ use crate::text::Text;
 use crate::walk::put_record;
 
 /// Puts a record, the bytes of its length field, and 1 where they are the shortest form.
-fn put_form(out: &mut Text, record: &Record) {
+pub fn put_form(out: &mut Text, record: &Record) {
     put_record(out, record);
-    out.put(",").number(record.length_bytes as u64).put(",").number(record.shortest.into()).put(";");
+    out.put(",").number(record.length_bytes as u64).put(",").number(record.shortest.into());
+}
+
+/// Puts records so.
+fn put_forms<'a>(out: &mut Text, records: impl Iterator<Item = Record<'a>>) {
+    for record in records {
+        put_form(out, &record);
+        out.put(";");
+    }
 }
 
 /// `form`: the length, its bytes, and 1 where they are the shortest form.
@@ -22,13 +30,13 @@ pub fn form(out: &mut Text, s: &[u8]) {
 
 /// `forms`: the records from 0 on.
 pub fn forms(out: &mut Text, s: &[u8], end: usize) -> Result<(), Refusal> {
-    Records::before(s, end)?.for_each(|record| put_form(out, &record));
+    put_forms(out, Records::before(s, end)?);
     Ok(())
 }
 
 /// `formrun`: the records of a run.
 pub fn run(out: &mut Text, s: &[u8]) {
-    klvs(s).for_each(|record| put_form(out, &record));
+    put_forms(out, klvs(s));
 }
 
 /// `formitems`: the local items of a set with tags of so many bytes.

@@ -15,7 +15,7 @@ pub enum Field {
 }
 
 /// Every word with its fields.
-pub const WORDS: [(&[u8], &[Field]); 24] = [
+pub const WORDS: [(&[u8], &[Field]); 30] = [
     (b"ber", &[]),
     (b"walk", &[Field::End]),
     (b"step", &[Field::End, Field::Number]),
@@ -40,12 +40,18 @@ pub const WORDS: [(&[u8], &[Field]); 24] = [
     (b"forms", &[Field::End]),
     (b"formrun", &[]),
     (b"formitems", &[Field::Number, Field::Coding]),
+    (b"passed", &[Field::End]),
+    (b"passarrive", &[Field::Number]),
+    (b"passfrom", &[Field::End, Field::Number, Field::Number]),
+    (b"passsony", &[Field::End]),
+    (b"passarri", &[Field::End]),
+    (b"passcanon", &[Field::End]),
 ];
 
 /// A case. Numbers that its word has no field for are 0.
 pub struct Case<'a> {
     pub word: &'static [u8],
-    pub numbers: [usize; 2],
+    pub numbers: [usize; 3],
     pub bytes: &'a [u8],
 }
 
@@ -57,12 +63,12 @@ pub fn parse<'a>(line: &[u8], room: &'a mut Vec<u8>) -> Option<Case<'a>> {
     let mut parts = line.split(|byte| *byte == b' ');
     let name = parts.next()?;
     let (word, fields) = WORDS.iter().find(|(word, _)| *word == name)?;
-    let mut texts = [&[][..]; 2];
+    let mut texts = [&[][..]; 3];
     for text in &mut texts[..fields.len()] {
         *text = parts.next()?;
     }
     read_bytes(parts.next()?, room)?;
-    let mut numbers = [0; 2];
+    let mut numbers = [0; 3];
     for (number, (field, text)) in numbers.iter_mut().zip(fields.iter().zip(texts)) {
         *number = number_of(*field, text, room.len())?;
     }

@@ -5,13 +5,14 @@ mod arri;
 mod canon;
 mod forms;
 mod line;
+mod passed;
 mod sony;
 mod text;
 mod walk;
 
 use std::io::{BufRead, BufReader, BufWriter, Result, Write, stdin, stdout};
 
-use brinethimble::Refusal;
+use brinethimble::{Cursor, Refusal};
 use line::Case;
 use text::Text;
 
@@ -43,7 +44,7 @@ fn answer(out: &mut Text, line: &[u8], bytes: &mut Vec<u8>) {
 
 /// Puts the answer to a case.
 fn reply(out: &mut Text, case: &Case) -> std::result::Result<(), Refusal> {
-    let (s, [a, b]) = (case.bytes, case.numbers);
+    let (s, [a, b, c]) = (case.bytes, case.numbers);
     match case.word {
         b"ber" => walk::ber(out, s),
         b"walk" => walk::walk(out, s, a)?,
@@ -69,6 +70,12 @@ fn reply(out: &mut Text, case: &Case) -> std::result::Result<(), Refusal> {
         b"forms" => forms::forms(out, s, a)?,
         b"formrun" => forms::run(out, s),
         b"formitems" => forms::items(out, s, a, b == 1),
+        b"passed" => passed::walk(out, s, a)?,
+        b"passarrive" => passed::arrive(out, s, a)?,
+        b"passfrom" => passed::step(out, s, a, Cursor { at: b, since: c })?,
+        b"passsony" => passed::sony(out, s, a)?,
+        b"passarri" => passed::arri(out, s, a)?,
+        b"passcanon" => passed::canon(out, s, a)?,
         _ => unreachable!("the words of line::WORDS are all here"),
     }
     Ok(())
@@ -100,6 +107,8 @@ mod tests {
         assert_eq!(answered("walk 1 -"), "refused 1");
         assert_eq!(answered("forms 1 -"), "refused 1");
         assert_eq!(answered("arrive 0 00"), "refused 2");
+        assert_eq!(answered("passfrom 1 0 0 -"), "refused 1");
+        assert_eq!(answered("passarrive 0 00"), "refused 2");
         assert_eq!(answered("set 30010008"), "refused 4");
     }
 
@@ -118,6 +127,20 @@ mod tests {
     }
 
     #[test]
+    fn records_and_frames_tell_what_was_passed_before_them() {
+        let key = "060e2b340101010d0e15000100010000";
+        let records = format!("5,{key},22,2,1,1,5;27,{key},44,0,1,1,3;|44,44");
+        assert_eq!(answered(&format!("passed n 0000000000{key}02aabb999999{key}00")), records);
+        assert_eq!(answered(&format!("passarrive 99 000000{key}")), "|3,0");
+        assert_eq!(answered(&format!("passarrive 99 000000{key}00")), format!("3,{key},20,0,1,1,3;|20,20"));
+        assert_eq!(answered(&format!("passfrom n 0 10 00{key}02aabb")), format!("1,{key},18,2,1,1,1|20,20"));
+        assert_eq!(answered("passfrom n 5 10 000000000000"), "-|5,5");
+        assert_eq!(answered("passsony n 00060e2b34010201010d0103011701020102aabb"), "0,1,18,2,,1;");
+        let given = "060e2b34024301010d01030104010203";
+        assert_eq!(answered(&format!("passcanon n 00{given}02aabb")), format!("-,1,{given},18,2,1;"));
+    }
+
+    #[test]
     fn every_word_answers_no_bytes() {
         let answers = line::WORDS.map(|(word, fields)| {
             let line = [word, &b" 0".repeat(fields.len())[..], b" -"].concat();
@@ -125,6 +148,7 @@ mod tests {
         });
         let no_values = "fl=- fd=- ts=- et=- sa=- tr=- ei=- wb=- nd=- efl=- wbf=- enc=-/-/-/-/-/- tint=- fps=-";
         assert_eq!(answers[..11], ["cut", "|0", "-|0", "", "|0", "|0", "-", "", "", "-", "?"]);
-        assert_eq!(answers[11..], [no_values, "", "0,-", "", "", "", "", "", "", "cut", "", "", ""]);
+        assert_eq!(answers[11..24], [no_values, "", "0,-", "", "", "", "", "", "", "cut", "", "", ""]);
+        assert_eq!(answers[24..], ["|0,0", "|0,0", "-|0,0", "", "", ""]);
     }
 }

@@ -1,6 +1,6 @@
 //! `ber`, `walk`, `step`, `arrive`, `klvs` and `tally`: the published mxf.rs, and what was added to it.
 
-use brinethimble::{Arriving, Length, Record, Records, Refusal, next_klv, read_ber};
+use brinethimble::{Arriving, Cursor, Length, Record, Records, Refusal, next_klv, read_ber};
 
 use crate::text::Text;
 
@@ -10,9 +10,9 @@ pub fn put_record(out: &mut Text, record: &Record) {
     out.put(",").number(record.value_place as u64).put(",").number(record.value.len() as u64);
 }
 
-/// Puts a cursor behind a bar.
-fn put_cursor(out: &mut Text, cursor: usize) {
-    out.put("|").number(cursor as u64);
+/// Puts where a cursor stands behind a bar.
+fn put_cursor(out: &mut Text, cursor: Cursor) {
+    out.put("|").number(cursor.at as u64);
 }
 
 /// `ber`: the length and its bytes.
@@ -37,7 +37,7 @@ pub fn walk(out: &mut Text, s: &[u8], end: usize) -> Result<(), Refusal> {
 
 /// `step`: one step from a cursor, and the next cursor.
 pub fn step(out: &mut Text, s: &[u8], end: usize, from: usize) -> Result<(), Refusal> {
-    let (record, next) = next_klv(s, end, from)?;
+    let (record, next) = next_klv(s, end, Cursor { at: from, since: from })?;
     out.or_dash(record, |out, record| put_record(out, &record));
     put_cursor(out, next);
     Ok(())

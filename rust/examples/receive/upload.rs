@@ -5,15 +5,19 @@
 //! What is said of an upload, a line each, as soon as it is certain:
 //!
 //! ```text
-//! ID record PLACE LABEL VALUE LENGTH
-//! ID frame sony NUMBER PLACE VALUE LENGTH, then the payload's length, or over-long
-//! ID frame arri NUMBER PLACE VALUE LENGTH, then the frame's values, or over-long
+//! ID record PLACE LABEL VALUE LENGTH PASSED
+//! ID frame sony NUMBER PLACE VALUE LENGTH PASSED, then the payload's length, or over-long
+//! ID frame arri NUMBER PLACE VALUE LENGTH PASSED, then the frame's values, or over-long
 //! ID waits PLACE ARRIVED
 //! ID refused STATUS, or ID no memory
 //! ID records N frames M
 //! ```
+//!
+//! PASSED is how many bytes were lost before a record or a frame.
 
-use brinethimble::{Arri, Arriving, Distance, Frame, FrameValues, Record, Refusal, Sony, TStop, next_klv, payload_into, values_of};
+use brinethimble::{
+    Arri, Arriving, Cursor, Distance, Frame, FrameCursor, FrameValues, Record, Refusal, Sony, TStop, next_klv, payload_into, values_of,
+};
 
 const PAYLOAD_ROOM: usize = 4096;
 
@@ -24,8 +28,13 @@ enum Camera {
     Arri,
 }
 
-/// A frame, and the cursor behind it: a place and the next frame's number.
-type Framed<'a> = (Frame<'a>, (usize, u64));
+/// A frame, and the cursor behind it.
+type Framed<'a> = (Frame<'a>, FrameCursor);
+
+/// A camera's cursor as the walk's over records.
+fn as_records(cursor: &FrameCursor) -> Cursor {
+    Cursor { at: cursor.at, since: cursor.since }
+}
 
 impl Camera {
     /// The camera's name.
@@ -37,7 +46,7 @@ impl Camera {
     }
 
     /// A step of the camera's walk up to an end, from a cursor.
-    fn step(self, s: &[u8], end: usize, cursor: (usize, u64)) -> Result<Option<Framed<'_>>, Refusal> {
+    fn step(self, s: &[u8], end: usize, cursor: FrameCursor) -> Result<Option<Framed<'_>>, Refusal> {
         match self {
             Camera::Sony => {
                 let mut walk = Sony::from_cursor(s, end, cursor)?;
@@ -103,13 +112,13 @@ pub struct Upload {
     bytes: Vec<u8>,
     walk: Arriving,
     records: u64,
-    cameras: [(Camera, (usize, u64)); 2],
+    cameras: [(Camera, FrameCursor); 2],
 }
 
 impl Upload {
     /// An upload of at most `limit` bytes.
     pub fn new(id: String, limit: usize) -> Self {
-        let cameras = [(Camera::Sony, (0, 0)), (Camera::Arri, (0, 0))];
+        let cameras = [(Camera::Sony, FrameCursor::default()), (Camera::Arri, FrameCursor::default())];
         Upload { id, limit, bytes: Vec::new(), walk: Arriving::new(limit), records: 0, cameras }
     }
 
@@ -150,32 +159,33 @@ impl Upload {
     /// Says the frames that have become certain: of each record of a camera's own walk, the frame that it alone is.
     fn follow_frames(&mut self) -> Result<(), Refusal> {
         for (camera, cursor) in &mut self.cameras {
-            let mut walk = Arriving::from_cursor(self.limit, cursor.0);
+            let mut walk = Arriving::from_cursor(self.limit, as_records(cursor));
             while let Some(record) = walk.next_klv(&self.bytes)? {
-                let found = camera.step(&self.bytes, walk.cursor(), (record.place, cursor.1))?;
-                let Some((frame, next)) = found else { continue };
+                let from = FrameCursor { at: record.place, since: record.place - record.passed, number: cursor.number };
+                let Some((frame, next)) = camera.step(&self.bytes, walk.cursor().at, from)? else { continue };
                 say_frame(&self.id, *camera, &self.bytes, &frame);
                 *cursor = next;
-                walk = Arriving::from_cursor(self.limit, cursor.0);
+                walk = Arriving::from_cursor(self.limit, as_records(cursor));
             }
-            cursor.0 = walk.cursor();
+            let Cursor { at, since } = walk.cursor();
+            *cursor = FrameCursor { at, since, number: cursor.number };
         }
         Ok(())
     }
 
     /// Says where the walk over records waits.
     pub fn say_waits(&self) {
-        println!("{} waits {} {}", self.id, self.walk.cursor(), self.bytes.len());
+        println!("{} waits {} {}", self.id, self.walk.cursor().at, self.bytes.len());
     }
 
     /// Walks the rest as finished, for the sender has closed, and says how much was found.
     pub fn finish(mut self) {
         let (s, end) = (&self.bytes[..], self.bytes.len());
-        let mut at = self.walk.cursor();
-        while let Ok((Some(record), next)) = next_klv(s, end, at) {
+        let mut cursor = self.walk.cursor();
+        while let Ok((Some(record), next)) = next_klv(s, end, cursor) {
             say_record(&self.id, &record);
             self.records += 1;
-            at = next;
+            cursor = next;
         }
         let mut frames = 0;
         for (camera, mut cursor) in self.cameras {
@@ -183,7 +193,7 @@ impl Upload {
                 say_frame(&self.id, camera, s, &frame);
                 cursor = next;
             }
-            frames += cursor.1;
+            frames += cursor.number;
         }
         println!("{} records {} frames {frames}", self.id, self.records);
     }
@@ -192,11 +202,12 @@ impl Upload {
 /// Says a record.
 fn say_record(id: &str, record: &Record) {
     let label = u128::from_be_bytes(*record.label);
-    println!("{id} record {} {label:032x} {} {}", record.place, record.value_place, record.value.len());
+    println!("{id} record {} {label:032x} {} {} {}", record.place, record.value_place, record.value.len(), record.passed);
 }
 
 /// Says a frame of the bytes that have arrived.
 fn say_frame(id: &str, camera: Camera, s: &[u8], frame: &Frame) {
     let (name, element, told) = (camera.name(), &frame.element, camera.tell(s, frame));
-    println!("{id} frame {name} {} {} {} {}{told}", frame.number, element.place, element.value_place, element.value.len());
+    let Record { place, value_place, value, passed, .. } = element;
+    println!("{id} frame {name} {} {place} {value_place} {} {passed}{told}", frame.number, value.len());
 }

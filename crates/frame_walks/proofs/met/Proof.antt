@@ -46,24 +46,24 @@ returns c =
     let w = c .before .before .before in
     let k = w .before .before .before in
     rw (w .wrapping-add-u64 .ensures)
-    (met-frame _ _ _ (is-kind k ∙ w .before .enum-told .given .1) _ _ (ap (λ (n : ℕ). ltb n (start k .args .k .len)) (c .before .before .longest-of .ensures)) (rw (c .if1 .taken)))
+    (met-frame _ (start k .args .from) _ _ (start k .pre .1) (is-kind k ∙ w .before .enum-told .given .1) _ _ (ap (λ (n : ℕ). ltb n (start k .args .k .len)) (c .before .before .longest-of .ensures)) (rw (c .if1 .taken)))
 
 returns-2 : tie.Need-returns-2
 returns-2 c =
     let w = c .before .before .before in
     let k = w .before .before .before in
     rw (w .wrapping-add-u64 .ensures)
-    (met-frame _ _ _ (is-kind k ∙ w .before .enum-told .given .1) _ _ (ap (λ (n : ℕ). ltb n (start k .args .k .len)) (c .before .before .longest-of .ensures)) (rw (c .if1 .left) (start k .pre)))
+    (met-frame _ (start k .args .from) _ _ (start k .pre .1) (is-kind k ∙ w .before .enum-told .given .1) _ _ (ap (λ (n : ℕ). ltb n (start k .args .k .len)) (c .before .before .longest-of .ensures)) (rw (c .if1 .left) (start k .pre .0)))
 
 returns-3 : tie.Need-returns-3
 returns-3 c =
     let k = c .before .before in
-    rw (start k .pre) (met-given _ _ _ (is-kind k ∙ c .enum-told2 .given .1))
+    met-given _ (start k .args .from) _ _ (start k .pre .1) _ (start k .pre .0) (is-kind k ∙ c .enum-told2 .given .1)
 
 returns-4 : tie.Need-returns-4
 returns-4 c =
     let k = c .before .before in
-    rw (start k .pre) (met-other _ _ _ (is-kind k ∙ c .enum-told3 .given .1))
+    met-other _ (start k .args .from) _ _ (start k .pre .1) _ (start k .pre .0) (is-kind k ∙ c .enum-told3 .given .1)
 
 pub met-spec : {M : Type 1} → statement M
 met-spec =

@@ -1,5 +1,6 @@
--- `frame_walks::seek` meets its contract. The loop's invariant: the next of what is shown from where it stands is the one that was asked for.
-use Prim.Native.Nat.{_-_}
+-- `frame_walks::seek` meets its contract. The loop's invariant: the next of what is shown from where it stands is the one that was asked for, and
+-- walking last went on no later than there.
+use Prim.Native.Nat.{_-_, _≤_}
 use mathlib.Core.Path.{_≡_, refl, sym, _∙_}
 use native.Mathlib.Omega.{arith}
 use Rattle.frame_walks.specs.Frames.{next}
@@ -10,7 +11,7 @@ use Rattle.frame_walks.proofs.seek.Statement.{statement}
 use Rattle.frame_walks.proofs.seek.Tie as tie
 
 abbrev Inv-loop : tie.InvT-loop
-Inv-loop s end camera p₀ p = next camera s end (placeAt p) ≡ next camera s end (placeAt p₀)
+Inv-loop s end camera p₀ p = (next camera s end (placeAt p) ≡ next camera s end (placeAt p₀)) × (p .since ≤ p .at)
 
 abbrev μ-loop : tie.MeasureT-loop
 μ-loop s end camera p₀ p = end - p .at
@@ -19,22 +20,16 @@ returns : tie.Need-returns Inv-loop μ-loop
 returns c = frame-refused _ _ _ _ (omega arith)
 
 loop-holds : tie.Need-loop-holds Inv-loop μ-loop
-loop-holds c = refl
+loop-holds c = (refl, omega (arith, c .lesser .ensures))
 
 look-requires : tie.Need-look-requires Inv-loop μ-loop
-look-requires c κs = search needs
-
-enum-known-l : tie.Need-enum-known-l Inv-loop μ-loop
-enum-known-l c = search needs
+look-requires c κs = (omega arith, c .loop .inv .1)
 
 returns-2 : tie.Need-returns-2 Inv-loop μ-loop
 unfolding Leads
 returns-2 c =
     let w = c .before .before .before in
-    leads-by _ _ _ _ _ (sym (c .before .l .given .1) ∙ w .look .ensures) _ ∙ w .before .loop .inv ∙ sym (frame-within _ _ _ (omega arith) _)
-
-enum-known-l-2 : tie.Need-enum-known-l-2 Inv-loop μ-loop
-enum-known-l-2 c = search needs
+    leads-by _ _ _ _ _ (sym (c .before .l .given .1) ∙ w .look .ensures) _ ∙ w .before .loop .inv .0 ∙ rw (w .before .before .lesser .ensures) (sym (frame-within _ _ _ (omega arith) _))
 
 loop-less : tie.Need-loop-less Inv-loop μ-loop
 unfolding Leads
@@ -47,7 +42,8 @@ loop-again : tie.Need-loop-again Inv-loop μ-loop
 unfolding Leads
 loop-again c =
     let w = c .before .before .before in
-    sym (leads-by _ _ _ _ _ (sym (c .before .l2 .given .1) ∙ w .look .ensures) .0) ∙ w .before .loop .inv
+    let m = leads-by _ _ _ _ _ (sym (c .before .l2 .given .1) ∙ w .look .ensures) in
+    (sym (m .0) ∙ w .before .loop .inv .0, m .3)
 
 pub seek-spec : {M : Type 1} → statement M
 seek-spec =
@@ -56,10 +52,11 @@ seek-spec =
     Inv-loop
     μ-loop
     returns
+    (λ c κs. search needs)
     loop-holds
     look-requires
-    enum-known-l
+    (λ c. search needs)
     returns-2
-    enum-known-l-2
+    (λ c. search needs)
     loop-less
     loop-again)

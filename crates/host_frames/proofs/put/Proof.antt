@@ -2,7 +2,7 @@
 use mathlib.Core.Path.{refl}
 use Rattle.steps.specs.Told.{number}
 use Rattle.frame_walks.specs.Told.{told}
-use Rattle.host_frames.specs.Places.{placesOf}
+use Rattle.host_frames.specs.Places.{shownPlaces, placesOf}
 use borrow.Author.Needs.{needs}
 use Rattle.host_frames.proofs.put.Statement.{statement}
 use Rattle.host_frames.proofs.put.Tie as tie
@@ -23,19 +23,19 @@ enum-told : tie.Need-enum-told
 enum-told c = search needs
 
 returns : tie.Need-returns
-unfolding number told placesOf
+unfolding number told placesOf shownPlaces
 returns c = rw (c .before .before .before .before .t .given .1, c .before .mark .ensures) (λ k. refl, λ k. refl)
 
 returns-2 : tie.Need-returns-2
-unfolding number told placesOf
+unfolding number told placesOf shownPlaces
 returns-2 c = rw (c .before .before .t2 .given .1) (λ k. refl, λ k. refl)
 
 returns-3 : tie.Need-returns-3
-unfolding number told placesOf
+unfolding number told placesOf shownPlaces
 returns-3 c = rw (c .before .before .t3 .given .1) (λ k. refl, λ k. refl)
 
 returns-4 : tie.Need-returns-4
-unfolding number told placesOf
+unfolding number told placesOf shownPlaces
 returns-4 c = rw (c .enum-told .given .1) (λ k. refl, λ k. refl)
 
 pub put-spec : {M : Type 1} → statement M

@@ -3,8 +3,9 @@ use native.Mathlib.Omega.{arith}
 use Prim.Native.Nat.{_-_}
 use mathlib.Core.Path.{sym}
 use lib.ListN.{length}
-use Rattle.records.proofs.Stepping.{finished-steps}
-use Rattle.tally.proofs.Steps.{next, never-refused}
+use Rattle.walk.specs.Told.{cursorOf}
+use Rattle.walk.proofs.Answers.{not-refused, passing-found, passing-never}
+use Rattle.tally.proofs.Steps.{next}
 use Rattle.text.proofs.Putting.{length-put}
 use Rattle.listing.proofs.Laws.{Going, going-start, going-next, going-over}
 use borrow.Author.Needs.{needs}
@@ -12,54 +13,41 @@ use Rattle.listing.proofs.put_records.Statement.{statement}
 use Rattle.listing.proofs.put_records.Tie as tie
 
 abbrev Inv-loop : tie.InvT-loop
-Inv-loop out₀ at s records₀ p₀ from₀ out records p from = Going s out₀ at out p records from
+Inv-loop out₀ at s records₀ p₀ k₀ out records p k = Going s out₀ at out p records (cursorOf k)
 
 abbrev μ-loop : tie.MeasureT-loop
-μ-loop out₀ at s records₀ p₀ from₀ out records p from = length s - from
+μ-loop out₀ at s records₀ p₀ k₀ out records p k = length s - k .at
 
 loop-holds : tie.Need-loop-holds Inv-loop μ-loop
 loop-holds c = going-start _ _ _
-
-step-requires : tie.Need-step-requires Inv-loop μ-loop
-step-requires c κs = search needs
-
-enum-told : tie.Need-enum-told Inv-loop μ-loop
-enum-told c = search needs
 
 same-length : tie.Need-same-length Inv-loop μ-loop
 same-length c = length-put (c .before .before .before .loop .inv .put)
 
 returns : tie.Need-returns Inv-loop μ-loop
-returns c = going-over (c .before .before .before .loop .inv) (finished-steps _ _ (omega arith) .over _ _ (sym (rw (c .enum-told .given .1) at (c .before .before .step .ensures))))
-
-enum-told-2 : tie.Need-enum-told-2 Inv-loop μ-loop
-enum-told-2 c = search needs
+returns c = going-over (c .before .before .before .loop .inv) _ (rw (c .enum-told .given .1) at (c .before .before .step .ensures))
 
 same-length-2 : tie.Need-same-length-2 Inv-loop μ-loop
 same-length-2 c = length-put (c .before .before .before .loop .inv .put)
 
 returns-2 : tie.Need-returns-2 Inv-loop μ-loop
-returns-2 c = absurd (never-refused _ _ _ _ (sym (rw (c .enum-told2 .given .1) at (c .before .before .step .ensures))))
-
-enum-known-r : tie.Need-enum-known-r Inv-loop μ-loop
-enum-known-r c = search needs
-
-put-klv-requires : tie.Need-put-klv-requires Inv-loop μ-loop
-put-klv-requires c κs = search needs
-
-put-byte-requires : tie.Need-put-byte-requires Inv-loop μ-loop
-put-byte-requires c κs = search needs
+returns-2 c = absurd (passing-never _ _ (not-refused _ _ _ (omega arith)) _ _ (rw (c .enum-told2 .given .1) at (c .before .before .step .ensures)))
 
 add-records : tie.Need-add-records Inv-loop μ-loop
-add-records c = omega (arith, c .before .before .before .before .before .before .before .before .before .before .before .before .loop .inv .few, next _ _ _ _ (sym (rw (c .before .before .before .before .before .before .before .before .before .r .given .1) at (c .before .before .before .before .before .before .before .before .before .before .before .step .ensures))))
+add-records c =
+    let w = c .before .before .before .before .before .before .before .before .before .before in
+    omega (arith, w .before .before .before .loop .inv .few, next _ _ _ _ (passing-found _ _ _ _ (rw (w .t .given .1) at (w .before .before .step .ensures)) .plain))
 
 loop-less : tie.Need-loop-less Inv-loop μ-loop
-loop-less c = omega (arith, next _ _ _ _ (sym (rw (c .before .before .before .before .before .before .before .before .before .r .given .1) at (c .before .before .before .before .before .before .before .before .before .before .before .step .ensures))))
+loop-less c =
+    let w = c .before .before .before .before .before .before .before .before .before .before in
+    omega (arith, next _ _ _ _ (passing-found _ _ _ _ (rw (w .t .given .1) at (w .before .before .step .ensures)) .plain))
 
 loop-again : tie.Need-loop-again Inv-loop μ-loop
 loop-again c =
-    let e = rw (c .before .before .before .before .before .before .before .before .before .r .given .1) at (c .before .before .before .before .before .before .before .before .before .before .before .step .ensures) in
-    going-next (c .before .before .before .before .before .before .before .before .before .before .before .before .loop .inv) _ _ e (next _ _ _ _ (sym e)) (c .before .before .before .before .before .before .put-klv .ensures) (c .before .before .put-byte .ensures)
+    let w = c .before .before .before .before .before .before .before .before .before .before in
+    going-next (w .before .before .before .loop .inv) _ _ (rw (w .t .given .1) at (w .before .before .step .ensures))
+    (rw (sym (c .before .before .before .before .before .before .before .label .ensures)) (c .before .before .before .before .before .before .put-record .ensures)) (c .before .before .put-byte .ensures)
 
 pub put-records-spec : {M : Type 1} → statement M
 put-records-spec =
@@ -68,16 +56,17 @@ put-records-spec =
     Inv-loop
     μ-loop
     loop-holds
-    step-requires
-    enum-told
+    (λ c κs. search needs)
+    (λ c. search needs)
     same-length
     returns
-    enum-told-2
+    (λ c. search needs)
     same-length-2
     returns-2
-    enum-known-r
-    put-klv-requires
-    put-byte-requires
+    (λ c. search needs)
+    (λ c κs. search needs)
+    (λ c κs. search needs)
+    (λ c κs. search needs)
     add-records
     loop-less
     loop-again)
