@@ -9,7 +9,7 @@
  *
  * Every `out` has a fixed number of places and a fixed meaning for each: its comment tells them in their order, and they have
  * names. A call that is not refused writes all of them; a place that the answer does not use is 0. A refusal writes nothing,
- * but for BRINE_NO_ROOM's length.
+ * but for BRINE_NO_ROOM's length and the place of brine_strict's refusals.
  *
  * How much memory may a stranger's bytes make a call ask for? None. docs/BOUNDS.md has the stack of each call.
  */
@@ -44,6 +44,16 @@ extern "C" {
 #define BRINE_NO_ROOM 3u
 /* An item of a descriptor runs past its set. */
 #define BRINE_ITEM_PAST_SET 4u
+/* brine_strict: fewer than 17 bytes are left at the place that is answered. */
+#define BRINE_TOO_SHORT 10u
+/* brine_strict: no key starts there. */
+#define BRINE_NO_KEY 11u
+/* brine_strict: the length of the record there starts with 89h or above. */
+#define BRINE_NO_LENGTH 12u
+/* brine_strict: the length of the record there starts with 80h. */
+#define BRINE_INDEFINITE 13u
+/* brine_strict: the length or the value of the record there is not wholly before the end. */
+#define BRINE_PAST_END 14u
 
 /* ---- Found: the first place of an out -------------------------------------------------------------------------------- */
 
@@ -404,6 +414,14 @@ uint32_t brine_camera(const uint8_t *s, size_t s_len, uint64_t kind[BRINE_VALUES
 #define BRINE_POSITION_PLACES 2
 uint32_t brine_sequence(const uint8_t *s, size_t s_len, uint64_t out[BRINE_SEQUENCE_PLACES],
                         int64_t positions[BRINE_POSITION_PLACES]);
+
+/* ---- Whole files ----------------------------------------------------------------------------------------------------- */
+
+/* Whether records follow each other from 0 to the end of s, no byte is passed and no length starts with 80h.
+ * out: 0 where the file is accepted, else the place where this breaks.
+ * Status: BRINE_DONE, accepted; BRINE_END_PAST_BUFFER, with nothing in out; else the first of these that fits there:
+ * BRINE_TOO_SHORT, BRINE_NO_KEY, BRINE_NO_LENGTH, BRINE_INDEFINITE, BRINE_PAST_END. */
+uint32_t brine_strict(const uint8_t *s, size_t s_len, size_t end, uint64_t out[1]);
 
 #ifdef __cplusplus
 }

@@ -50,6 +50,7 @@ static void do_arri_values(void) { sink = brine_arri_values(bytes, BYTES, frame,
 static void do_package(void) { sink = brine_package(bytes, BYTES, 0, 0, out); }
 static void do_camera(void) { sink = brine_camera(bytes, BYTES, kind, bits); }
 static void do_sequence(void) { sink = brine_sequence(bytes, BYTES, out, positions); }
+static void do_strict(void) { sink = brine_strict(bytes, BYTES, BYTES, out); }
 
 #define CALL(name) {"brine_" #name, do_##name, 0}
 static struct {
@@ -60,7 +61,7 @@ static struct {
     CALL(nothing), CALL(length), CALL(same_label), CALL(next_key), CALL(step), CALL(arrive), CALL(records), CALL(arrivals),
     CALL(tally), CALL(run), CALL(item), CALL(header), CALL(primer), CALL(arri_block), CALL(payload), CALL(line),
     CALL(descriptor), CALL(sony_step), CALL(arri_step), CALL(canon_step), CALL(of_dynamic), CALL(of_alexa35),
-    CALL(arri_values), CALL(package), CALL(camera), CALL(sequence),
+    CALL(arri_values), CALL(package), CALL(camera), CALL(sequence), CALL(strict),
 };
 enum { CALLS = sizeof calls / sizeof *calls };
 

@@ -55,14 +55,20 @@ impl Values {
 
 include!("calls.rs");
 
-/// What a status says; `needed` is what a payload without room needs.
-fn answered<T>(status: u32, needed: u64, answer: T) -> Result<T, Refusal> {
+/// What a status says; `told` is the number that comes with some: what a payload without room needs, where records break off.
+fn answered<T>(status: u32, told: u64, answer: T) -> Result<T, Refusal> {
+    let place = told as usize;
     match status {
         0 => Ok(answer),
         1 => Err(Refusal::EndPastBuffer),
         2 => Err(Refusal::PastLimit),
-        3 => Err(Refusal::NoRoom { needed: needed as usize }),
+        3 => Err(Refusal::NoRoom { needed: told as usize }),
         4 => Err(Refusal::ItemPastSet),
+        10 => Err(Refusal::TooShort { place }),
+        11 => Err(Refusal::NoKey { place }),
+        12 => Err(Refusal::NoLength { place }),
+        13 => Err(Refusal::Indefinite { place }),
+        14 => Err(Refusal::PastEnd { place }),
         _ => unreachable!("{status} is no status of the library"),
     }
 }
@@ -238,4 +244,11 @@ pub fn sequence(s: &[u8]) -> ([u64; 8], [i64; 2]) {
     let (mut out, mut positions) = ([0; 8], [0; 2]);
     unsafe { brine_sequence(s.as_ptr(), s.len(), &mut out, &mut positions) };
     (out, positions)
+}
+
+/// `brine_strict`.
+pub fn strict(s: &[u8], end: usize) -> Result<(), Refusal> {
+    let mut out = [0];
+    let status = unsafe { brine_strict(s.as_ptr(), s.len(), end, &mut out) };
+    answered(status, out[0], ())
 }

@@ -20,7 +20,7 @@ use std::fmt;
 use crate::boundary;
 use crate::walk::Cursor;
 
-/// Why a call refuses: it has answered nothing and written nothing.
+/// Why a call refuses: it has answered nothing else and written nothing.
 #[derive(Clone, Copy, PartialEq, Eq, Debug)]
 pub enum Refusal {
     /// 1: the end is larger than the buffer.
@@ -34,6 +34,31 @@ pub enum Refusal {
     },
     /// 4: an item of a descriptor runs past its set.
     ItemPastSet,
+    /// 10: the strict gate: fewer than 17 bytes are left.
+    TooShort {
+        /// Where records break off.
+        place: usize,
+    },
+    /// 11: the strict gate: no key starts there.
+    NoKey {
+        /// Where records break off.
+        place: usize,
+    },
+    /// 12: the strict gate: the length of the record there starts with 89h or above.
+    NoLength {
+        /// Where records break off.
+        place: usize,
+    },
+    /// 13: the strict gate: the length of the record there starts with 80h.
+    Indefinite {
+        /// Where records break off.
+        place: usize,
+    },
+    /// 14: the strict gate: the length or the value of the record there is not wholly before the end.
+    PastEnd {
+        /// Where records break off.
+        place: usize,
+    },
 }
 
 impl Refusal {
@@ -48,6 +73,30 @@ impl Refusal {
             Refusal::PastLimit => 2,
             Refusal::NoRoom { .. } => 3,
             Refusal::ItemPastSet => 4,
+            Refusal::TooShort { .. } => 10,
+            Refusal::NoKey { .. } => 11,
+            Refusal::NoLength { .. } => 12,
+            Refusal::Indefinite { .. } => 13,
+            Refusal::PastEnd { .. } => 14,
+        }
+    }
+
+    /// Where a file's records break off: of the strict gate's refusals, 10 to 14.
+    ///
+    /// ```
+    /// use brinethimble::Refusal;
+    ///
+    /// assert_eq!(Refusal::NoKey { place: 17 }.place(), Some(17));
+    /// assert_eq!(Refusal::EndPastBuffer.place(), None);
+    /// ```
+    pub fn place(self) -> Option<usize> {
+        match self {
+            Refusal::TooShort { place }
+            | Refusal::NoKey { place }
+            | Refusal::NoLength { place }
+            | Refusal::Indefinite { place }
+            | Refusal::PastEnd { place } => Some(place),
+            _ => None,
         }
     }
 }
@@ -59,6 +108,11 @@ impl fmt::Display for Refusal {
             Refusal::PastLimit => write!(f, "more bytes have arrived than the limit"),
             Refusal::NoRoom { needed } => write!(f, "the payload needs {needed} bytes of room"),
             Refusal::ItemPastSet => write!(f, "an item runs past its set"),
+            Refusal::TooShort { place } => write!(f, "fewer than 17 bytes are left at {place}"),
+            Refusal::NoKey { place } => write!(f, "no key starts at {place}"),
+            Refusal::NoLength { place } => write!(f, "the record at {place} has no length"),
+            Refusal::Indefinite { place } => write!(f, "the length of the record at {place} is 80h"),
+            Refusal::PastEnd { place } => write!(f, "the record at {place} is not wholly before the end"),
         }
     }
 }
@@ -251,8 +305,19 @@ mod tests {
 
     #[test]
     fn refusals_have_their_numbers() {
-        let all = [Refusal::EndPastBuffer, Refusal::PastLimit, Refusal::NoRoom { needed: 7 }, Refusal::ItemPastSet];
-        assert_eq!(all.map(Refusal::number), [1, 2, 3, 4]);
+        let all = [
+            Refusal::EndPastBuffer,
+            Refusal::PastLimit,
+            Refusal::NoRoom { needed: 7 },
+            Refusal::ItemPastSet,
+            Refusal::TooShort { place: 1 },
+            Refusal::NoKey { place: 2 },
+            Refusal::NoLength { place: 3 },
+            Refusal::Indefinite { place: 4 },
+            Refusal::PastEnd { place: 5 },
+        ];
+        assert_eq!(all.map(Refusal::number), [1, 2, 3, 4, 10, 11, 12, 13, 14]);
+        assert_eq!(all[4..].iter().map(|refusal| refusal.place()).collect::<Vec<_>>(), [1, 2, 3, 4, 5].map(Some));
         assert_eq!(all[2].to_string(), "the payload needs 7 bytes of room");
     }
 }

@@ -162,3 +162,27 @@ fn runs_and_items_follow_each_other() {
         }
     });
 }
+
+/// Whether the records of the finished walk follow each other from 0 to the end, and no length is 80h.
+fn follow(s: &[u8], end: usize) -> bool {
+    let mut at = 0;
+    let follow = Records::before(s, end).unwrap().all(|record| {
+        let follows = record.place == at && (record.length_bytes > 1 || record.shortest);
+        at = record.value_place + record.value.len();
+        follows
+    });
+    follow && at == end
+}
+
+#[test]
+fn the_gate_accepts_where_records_follow_each_other_and_up_to_where_they_break() {
+    let some = std::cell::Cell::new(0);
+    on_buffers(|s, number| {
+        let end = number.min(s.len());
+        assert_eq!(strict(s, end).is_ok(), follow(s, end));
+        let broken = strict(s, s.len()).err().map_or(s.len(), |refusal| refusal.place().unwrap());
+        assert!(strict(s, broken).is_ok() && follow(s, broken));
+        some.set(some.get() + u32::from(broken > 0));
+    });
+    assert!(some.get() > 500);
+}

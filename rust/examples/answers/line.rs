@@ -15,7 +15,7 @@ pub enum Field {
 }
 
 /// Every word with its fields.
-pub const WORDS: [(&[u8], &[Field]); 30] = [
+pub const WORDS: [(&[u8], &[Field]); 31] = [
     (b"ber", &[]),
     (b"walk", &[Field::End]),
     (b"step", &[Field::End, Field::Number]),
@@ -46,6 +46,7 @@ pub const WORDS: [(&[u8], &[Field]); 30] = [
     (b"passsony", &[Field::End]),
     (b"passarri", &[Field::End]),
     (b"passcanon", &[Field::End]),
+    (b"strict", &[Field::End]),
 ];
 
 /// A case. Numbers that its word has no field for are 0.

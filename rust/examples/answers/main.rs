@@ -3,6 +3,7 @@
 
 mod arri;
 mod canon;
+mod checks;
 mod forms;
 mod line;
 mod passed;
@@ -39,6 +40,9 @@ fn answer(out: &mut Text, line: &[u8], bytes: &mut Vec<u8>) {
     if let Err(refusal) = reply(out, &case) {
         out.0.clear();
         out.put("refused ").number(refusal.number().into());
+        if let Some(place) = refusal.place() {
+            out.put(" ").number(place as u64);
+        }
     }
 }
 
@@ -76,6 +80,7 @@ fn reply(out: &mut Text, case: &Case) -> std::result::Result<(), Refusal> {
         b"passsony" => passed::sony(out, s, a)?,
         b"passarri" => passed::arri(out, s, a)?,
         b"passcanon" => passed::canon(out, s, a)?,
+        b"strict" => checks::strict(out, s, a)?,
         _ => unreachable!("the words of line::WORDS are all here"),
     }
     Ok(())
@@ -110,6 +115,8 @@ mod tests {
         assert_eq!(answered("passfrom 1 0 0 -"), "refused 1");
         assert_eq!(answered("passarrive 0 00"), "refused 2");
         assert_eq!(answered("set 30010008"), "refused 4");
+        assert_eq!(answered("strict 1 -"), "refused 1");
+        assert_eq!(answered("strict n 00"), "refused 10 0");
     }
 
     #[test]
@@ -149,6 +156,6 @@ mod tests {
         let no_values = "fl=- fd=- ts=- et=- sa=- tr=- ei=- wb=- nd=- efl=- wbf=- enc=-/-/-/-/-/- tint=- fps=-";
         assert_eq!(answers[..11], ["cut", "|0", "-|0", "", "|0", "|0", "-", "", "", "-", "?"]);
         assert_eq!(answers[11..24], [no_values, "", "0,-", "", "", "", "", "", "", "cut", "", "", ""]);
-        assert_eq!(answers[24..], ["|0,0", "|0,0", "-|0,0", "", "", ""]);
+        assert_eq!(answers[24..], ["|0,0", "|0,0", "-|0,0", "", "", "", "accepted"]);
     }
 }

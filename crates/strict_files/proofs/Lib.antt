@@ -1,0 +1,4 @@
+pub mod Following
+pub mod Walked
+pub mod Files
+pub mod Forms
