@@ -44,6 +44,12 @@ extern "C" {
 #define BRINE_NO_ROOM 3u
 /* An item of a descriptor runs past its set. */
 #define BRINE_ITEM_PAST_SET 4u
+/* brine_random_index: the file or the pack's size is below 21 bytes, or the size is above the file's. */
+#define BRINE_PACK_SIZE 7u
+/* brine_random_index: where the size says, another label than the pack's stands. */
+#define BRINE_PACK_LABEL 8u
+/* brine_random_index: the pack's length is cut or none, not 4 more than a multiple of 12, or does not end at the file's end. */
+#define BRINE_PACK_LENGTH 9u
 /* brine_strict: fewer than 17 bytes are left at the place that is answered. */
 #define BRINE_TOO_SHORT 10u
 /* brine_strict: no key starts there. */
@@ -422,6 +428,27 @@ uint32_t brine_sequence(const uint8_t *s, size_t s_len, uint64_t out[BRINE_SEQUE
  * Status: BRINE_DONE, accepted; BRINE_END_PAST_BUFFER, with nothing in out; else the first of these that fits there:
  * BRINE_TOO_SHORT, BRINE_NO_KEY, BRINE_NO_LENGTH, BRINE_INDEFINITE, BRINE_PAST_END. */
 uint32_t brine_strict(const uint8_t *s, size_t s_len, size_t end, uint64_t out[1]);
+
+/* The random index pack that ends a file, found from the file's last four bytes. s is the whole file.
+ * out: the first pair's place, how many pairs there are: the first cursor of brine_pair.
+ * Status: BRINE_DONE, BRINE_PACK_SIZE, BRINE_PACK_LABEL, BRINE_PACK_LENGTH; of these the first that fits. */
+#define BRINE_INDEX_PLACE 0
+#define BRINE_INDEX_PAIRS 1
+#define BRINE_INDEX_PLACES 2
+uint32_t brine_random_index(const uint8_t *s, size_t s_len, uint64_t out[BRINE_INDEX_PLACES]);
+
+/* A pair of that pack, from a cursor of a place and the number of pairs left there.
+ * out: found, body stream's number, offset in the file, partition (1) where a partition pack's label stands at that offset wholly
+ * inside the file, else 0; next cursor's place, pairs left there.
+ * BRINE_NOTHING: no pair is left; the next cursor is the one handed in. */
+#define BRINE_PAIR_FOUND 0
+#define BRINE_PAIR_STREAM 1
+#define BRINE_PAIR_OFFSET 2
+#define BRINE_PAIR_PARTITION 3
+#define BRINE_PAIR_NEXT 4
+#define BRINE_PAIR_LEFT 5
+#define BRINE_PAIR_PLACES 6
+uint32_t brine_pair(const uint8_t *s, size_t s_len, size_t at, size_t left, uint64_t out[BRINE_PAIR_PLACES]);
 
 #ifdef __cplusplus
 }

@@ -51,6 +51,8 @@ static void do_package(void) { sink = brine_package(bytes, BYTES, 0, 0, out); }
 static void do_camera(void) { sink = brine_camera(bytes, BYTES, kind, bits); }
 static void do_sequence(void) { sink = brine_sequence(bytes, BYTES, out, positions); }
 static void do_strict(void) { sink = brine_strict(bytes, BYTES, BYTES, out); }
+static void do_random_index(void) { sink = brine_random_index(bytes, BYTES, out); }
+static void do_pair(void) { sink = brine_pair(bytes, BYTES, 0, SIZE_MAX, out); }
 
 #define CALL(name) {"brine_" #name, do_##name, 0}
 static struct {
@@ -62,6 +64,7 @@ static struct {
     CALL(tally), CALL(run), CALL(item), CALL(header), CALL(primer), CALL(arri_block), CALL(payload), CALL(line),
     CALL(descriptor), CALL(sony_step), CALL(arri_step), CALL(canon_step), CALL(of_dynamic), CALL(of_alexa35),
     CALL(arri_values), CALL(package), CALL(camera), CALL(sequence), CALL(strict),
+    CALL(random_index), CALL(pair),
 };
 enum { CALLS = sizeof calls / sizeof *calls };
 

@@ -64,6 +64,9 @@ fn answered<T>(status: u32, told: u64, answer: T) -> Result<T, Refusal> {
         2 => Err(Refusal::PastLimit),
         3 => Err(Refusal::NoRoom { needed: told as usize }),
         4 => Err(Refusal::ItemPastSet),
+        7 => Err(Refusal::PackSize),
+        8 => Err(Refusal::PackLabel),
+        9 => Err(Refusal::PackLength),
         10 => Err(Refusal::TooShort { place }),
         11 => Err(Refusal::NoKey { place }),
         12 => Err(Refusal::NoLength { place }),
@@ -251,4 +254,18 @@ pub fn strict(s: &[u8], end: usize) -> Result<(), Refusal> {
     let mut out = [0];
     let status = unsafe { brine_strict(s.as_ptr(), s.len(), end, &mut out) };
     answered(status, out[0], ())
+}
+
+/// `brine_random_index`: the first pair's place, how many pairs there are.
+pub fn random_index(s: &[u8]) -> Result<[u64; 2], Refusal> {
+    let mut out = [0; 2];
+    let status = unsafe { brine_random_index(s.as_ptr(), s.len(), &mut out) };
+    answered(status, 0, out)
+}
+
+/// `brine_pair`: found, stream, offset, whether a partition stands there, next cursor's place, pairs left there.
+pub fn pair(s: &[u8], at: usize, left: usize) -> [u64; 6] {
+    let mut out = [0; 6];
+    unsafe { brine_pair(s.as_ptr(), s.len(), at, left, &mut out) };
+    out
 }

@@ -33,4 +33,6 @@ unsafe extern "C" {
     fn brine_camera(s: *const u8, s_len: usize, kind: &mut [u64; 32], bits: &mut [u64; 32]) -> u32;
     fn brine_sequence(s: *const u8, s_len: usize, out: &mut [u64; 8], positions: &mut [i64; 2]) -> u32;
     fn brine_strict(s: *const u8, s_len: usize, end: usize, out: &mut [u64; 1]) -> u32;
+    fn brine_random_index(s: *const u8, s_len: usize, out: &mut [u64; 2]) -> u32;
+    fn brine_pair(s: *const u8, s_len: usize, at: usize, left: usize, out: &mut [u64; 6]) -> u32;
 }

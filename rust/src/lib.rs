@@ -27,7 +27,7 @@
 //! | the frames of Sony's, ARRI's and Canon's files | [`frames`] |
 //! | the values of ARRI's frames | [`values`] |
 //! | Canon's camera metadata and sequence info | [`canon`] |
-//! | a strict gate over a whole file | [`checks`] |
+//! | whole files: a strict gate, the random index pack | [`checks`] |
 #![forbid(unsafe_op_in_unsafe_fn)]
 #![deny(missing_docs, unsafe_code)]
 
@@ -44,7 +44,7 @@ pub mod values;
 pub mod walk;
 
 pub use canon::{Camera, Member, Packages, Sequence, Value, camera_metadata, package_metadata, stream_file_sequence_info};
-pub use checks::strict;
+pub use checks::{Pair, RandomIndex, strict};
 pub use frames::{Arri, Canon, CanonItem, Frame, FrameCursor, Sony};
 pub use items::{Coding, Item, Items, Klvs, klvs, local_items};
 pub use record::{Length, Record, Refusal, next_key, read_ber, same_label};

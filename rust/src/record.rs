@@ -34,6 +34,12 @@ pub enum Refusal {
     },
     /// 4: an item of a descriptor runs past its set.
     ItemPastSet,
+    /// 7: the file or its random index pack's size is below 21 bytes, or the size is above the file's.
+    PackSize,
+    /// 8: no random index pack's label stands where the size says.
+    PackLabel,
+    /// 9: the random index pack's length is cut or none, not 4 more than a multiple of 12, or does not end at the file's end.
+    PackLength,
     /// 10: the strict gate: fewer than 17 bytes are left.
     TooShort {
         /// Where records break off.
@@ -73,6 +79,9 @@ impl Refusal {
             Refusal::PastLimit => 2,
             Refusal::NoRoom { .. } => 3,
             Refusal::ItemPastSet => 4,
+            Refusal::PackSize => 7,
+            Refusal::PackLabel => 8,
+            Refusal::PackLength => 9,
             Refusal::TooShort { .. } => 10,
             Refusal::NoKey { .. } => 11,
             Refusal::NoLength { .. } => 12,
@@ -108,6 +117,9 @@ impl fmt::Display for Refusal {
             Refusal::PastLimit => write!(f, "more bytes have arrived than the limit"),
             Refusal::NoRoom { needed } => write!(f, "the payload needs {needed} bytes of room"),
             Refusal::ItemPastSet => write!(f, "an item runs past its set"),
+            Refusal::PackSize => write!(f, "no size of a random index pack ends the file"),
+            Refusal::PackLabel => write!(f, "no random index pack's label stands where the size says"),
+            Refusal::PackLength => write!(f, "the random index pack's length does not fit"),
             Refusal::TooShort { place } => write!(f, "fewer than 17 bytes are left at {place}"),
             Refusal::NoKey { place } => write!(f, "no key starts at {place}"),
             Refusal::NoLength { place } => write!(f, "the record at {place} has no length"),
@@ -310,14 +322,17 @@ mod tests {
             Refusal::PastLimit,
             Refusal::NoRoom { needed: 7 },
             Refusal::ItemPastSet,
+            Refusal::PackSize,
+            Refusal::PackLabel,
+            Refusal::PackLength,
             Refusal::TooShort { place: 1 },
             Refusal::NoKey { place: 2 },
             Refusal::NoLength { place: 3 },
             Refusal::Indefinite { place: 4 },
             Refusal::PastEnd { place: 5 },
         ];
-        assert_eq!(all.map(Refusal::number), [1, 2, 3, 4, 10, 11, 12, 13, 14]);
-        assert_eq!(all[4..].iter().map(|refusal| refusal.place()).collect::<Vec<_>>(), [1, 2, 3, 4, 5].map(Some));
+        assert_eq!(all.map(Refusal::number), [1, 2, 3, 4, 7, 8, 9, 10, 11, 12, 13, 14]);
+        assert_eq!(all[7..].iter().map(|refusal| refusal.place()).collect::<Vec<_>>(), [1, 2, 3, 4, 5].map(Some));
         assert_eq!(all[2].to_string(), "the payload needs 7 bytes of room");
     }
 }

@@ -3,30 +3,15 @@ use Prim.Native.Nat.{ℕ, _-_, _≤_, _<_, min}
 use mathlib.Core.Path.{_≡_}
 use mathlib.Core.List.{List}
 use mathlib.Core.Bool.{true, false}
-use native.Mathlib.Omega.{arith}
-use borrow.Author.Tests.{le-leb, lt-leb, eq-eqb, ne-eqb}
-use lib.ListN.{length, getD, List·getD-eq-default}
+use borrow.Author.Tests.{le-leb, lt-leb}
+use lib.ListN.{length}
 use Rattle.steps.specs.Told.{found, nothing}
-use Rattle.labels.specs.Label.{beginning}
 use Rattle.klv.specs.Item.{Item}
 use Rattle.items.specs.Items.{runStep}
 use Rattle.parts.specs.Answer.{is, none}
-use Rattle.header.specs.Header.{partitionPrefix, isHeader, sizeOf, afterPack, headerOf}
+use Rattle.header.specs.Header.{isHeader, sizeOf, afterPack, headerOf}
 
 module _ (s : List ℕ) where
-  -- a byte that is missing is not 2
-  pub header-short : length s < 14 → isHeader s ≡ false
-  unfolding isHeader
-  header-short h = simp (List·getD-eq-default s 0 {n = 13} (omega arith))
-
-  pub header-other : (getD s 13 0 ≡ 2 → ⊥) → isHeader s ≡ false
-  unfolding isHeader
-  header-other n = simp (ne-eqb _ _ n)
-
-  pub header-two : getD s 13 0 ≡ 2 → isHeader s ≡ beginning partitionPrefix s
-  unfolding isHeader
-  header-two e = simp (eq-eqb _ _ e)
-
   pub part-none : isHeader s ≡ false → headerOf s ≡ none
   unfolding headerOf
   part-none h = simp h

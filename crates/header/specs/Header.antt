@@ -1,13 +1,13 @@
 -- The header part: docs/RULES.md, "Tables inside values".
 use Prim.Native.Nat.{ℕ, _+_, _-_, min}
-use mathlib.Core.List.{List, [], _∷_}
-use mathlib.Core.Bool.{Bool, cond, _&&_}
-use lib.ListN.{length, getD, take, drop}
+use mathlib.Core.List.{List, []}
+use mathlib.Core.Bool.{Bool, cond}
+use lib.ListN.{length, take, drop}
 use lib.Dec.{leb, eqb}
 use Rattle.steps.specs.Told.{Told, found, nothing, refused}
 use Rattle.parts.specs.Number.{numberAt}
 use Rattle.parts.specs.Answer.{Answer, is, none}
-use Rattle.labels.specs.Label.{beginning}
+use Rattle.labels.specs.Label.{partitionKind}
 use Rattle.klv.specs.Item.{Item}
 use Rattle.items.specs.Items.{runStep}
 use Rattle.header.specs.declared.Place.{Place}
@@ -19,13 +19,9 @@ abbrev pub told : Header → Answer Place
 told (Part p) = is p
 told Nothing = none
 
--- PARTITION_PREFIX
-abbrev pub partitionPrefix : List ℕ
-partitionPrefix = 0x06 ∷ 0x0e ∷ 0x2b ∷ 0x34 ∷ 0x02 ∷ 0x05 ∷ 0x01 ∷ 0x01 ∷ 0x0d ∷ 0x01 ∷ 0x02 ∷ 0x01 ∷ 0x01 ∷ []
-
--- label begins with its 13 bytes, byte 13 is 2
-unfoldable pub isHeader : List ℕ → Bool
-isHeader s = eqb (getD s 13 0) 2 && beginning partitionPrefix s
+-- the label begins with the 13 bytes of PARTITION_PREFIX, byte 13 is 2
+abbrev pub isHeader : List ℕ → Bool
+isHeader s = eqb (partitionKind s 0) 2
 
 -- (number at 32..40) + (number at 4..8) of the pack at v
 unfoldable pub sizeOf : List ℕ → ℕ → ℕ

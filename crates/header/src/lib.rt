@@ -7,7 +7,6 @@ ghost use lib.ListN.{length};
 ghost use Rattle.header.specs.Header.{told, isHeader, sizeOf, headerOf, headerBytes};
 use items::Run;
 use items::RunNext;
-use labels::PARTITION_PREFIX;
 use parts::number;
 
 // A part of the buffer: where it starts and how long it is.
@@ -33,13 +32,7 @@ fn lesser(a: u64, b: usize) -> usize
 fn is_header(s: &[u8]) -> bool
     ensures { λ r. ⌜ r ≡ isHeader (now (s .entry)) ⌝ }
 {
-    if s.len() < 14 {
-        return false;
-    }
-    if s[13] != 2 {
-        return false;
-    }
-    labels::begins(&PARTITION_PREFIX, s)
+    labels::partition_kind(s, 0) == 2
 }
 
 // How much of the rest the two numbers of the pack at a place ask for: their sum, which can't wrap, cut to what is left.

@@ -1,9 +1,9 @@
 -- Labels: docs/RULES.md, "Lengths and labels".
 use Prim.Native.Nat.{ℕ, zero, suc, _+_}
 use mathlib.Core.List.{List, [], _∷_}
-use mathlib.Core.Bool.{Bool, true, false, _&&_, _||_}
+use mathlib.Core.Bool.{Bool, true, false, cond, _&&_, _||_}
 use lib.ListN.{length, getD, take, drop}
-use lib.Dec.{eqb}
+use lib.Dec.{leb, eqb}
 
 -- the first list is a beginning of the second
 unfoldable pub beginning : List ℕ → List ℕ → Bool
@@ -41,3 +41,16 @@ keyStart = 0x06 ∷ 0x0e ∷ 0x2b ∷ 0x34 ∷ []
 unfoldable pub keyAt : List ℕ → ℕ → Bool
 keyAt s q =
     eqb (getD s q 0) 0x06 && (eqb (getD s (q + 1) 0) 0x0e && (eqb (getD s (q + 2) 0) 0x2b && eqb (getD s (q + 3) 0) 0x34))
+
+-- PARTITION_PREFIX
+abbrev pub partitionPrefix : List ℕ
+partitionPrefix = 0x06 ∷ 0x0e ∷ 0x2b ∷ 0x34 ∷ 0x02 ∷ 0x05 ∷ 0x01 ∷ 0x01 ∷ 0x0d ∷ 0x01 ∷ 0x02 ∷ 0x01 ∷ 0x01 ∷ []
+
+-- the kind of the partition pack whose label stands at a place: the byte behind the 13 prefix bytes, all 14 inside the buffer;
+-- else 0, which is no pack's
+unfoldable pub partitionKind : List ℕ → ℕ → ℕ
+partitionKind s at = cond (leb (at + 14) (length s) && beginning partitionPrefix (drop at s)) (getD s (at + 13) 0) 0
+
+-- RANDOM_INDEX
+abbrev pub randomIndex : List ℕ
+randomIndex = 0x06 ∷ 0x0e ∷ 0x2b ∷ 0x34 ∷ 0x02 ∷ 0x05 ∷ 0x01 ∷ 0x01 ∷ 0x0d ∷ 0x01 ∷ 0x02 ∷ 0x01 ∷ 0x01 ∷ 0x11 ∷ 0x01 ∷ 0x00 ∷ []

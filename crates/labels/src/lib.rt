@@ -1,7 +1,7 @@
 // Labels: docs/RULES.md, "Lengths and labels". Two labels are the same when both have 16 bytes and agree in all but the
 // byte at 7.
 ghost use mathlib.Core.Path.{_≡_};
-ghost use Rattle.labels.specs.Label.{beginning, agreeBut, sameLabel, codesItems, labelAt};
+ghost use Rattle.labels.specs.Label.{beginning, agreeBut, sameLabel, codesItems, labelAt, partitionKind};
 
 // What every key starts with: a SMPTE universal label's first bytes (ST 336).
 pub const KEY_START: [u8; 4] = *b"\x06\x0e\x2b\x34";
@@ -9,6 +9,10 @@ pub const KEY_START: [u8; 4] = *b"\x06\x0e\x2b\x34";
 // The partition packs' labels, ahead of their kind (2 the header's, 3 a body's, 4 the footer's), their status and 0
 // (ST 377-1).
 pub const PARTITION_PREFIX: [u8; 13] = *b"\x06\x0e\x2b\x34\x02\x05\x01\x01\x0d\x01\x02\x01\x01";
+
+// The random index pack's key (ST 377-1).
+pub const RANDOM_INDEX: [u8; 16] =
+    *b"\x06\x0e\x2b\x34\x02\x05\x01\x01\x0d\x01\x02\x01\x01\x11\x01\x00";
 
 // Whether the first is a beginning of the second.
 pub fn begins(l: &[u8], k: &[u8]) -> bool
@@ -72,4 +76,21 @@ pub fn label(s: &[u8], at: usize) -> &[u8]
     ensures { λ r. ⌜ now r ≡ labelAt (now (s .entry)) at ⌝ }
 {
     parts::part(s, at, 16)
+}
+
+// The kind of the partition pack whose label stands at a place, which may lie anywhere: the byte behind the prefix, or 0 where
+// the 14 bytes are not all there or do not start with the prefix.
+pub fn partition_kind(s: &[u8], at: usize) -> u8
+    ensures { λ r. ⌜ r ≡ partitionKind (now (s .entry)) at ⌝ }
+{
+    if s.len() < 14 {
+        return 0;
+    }
+    if s.len() - 14 < at {
+        return 0;
+    }
+    if !begins(&PARTITION_PREFIX, &s[at..]) {
+        return 0;
+    }
+    s[at + 13]
 }

@@ -3,3 +3,4 @@ pub mod Grouping
 pub mod LengthForms
 pub mod Passed
 pub mod StrictGate
+pub mod RandomIndex

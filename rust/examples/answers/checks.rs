@@ -1,6 +1,6 @@
-//! `strict`: a whole file is accepted or refused (docs/RULES.md, "L7. A strict gate").
+//! `strict` and `rip`: of a whole file (docs/RULES.md, "L7. A strict gate", and "L6. The random index pack").
 
-use brinethimble::Refusal;
+use brinethimble::{RandomIndex, Refusal};
 
 use crate::text::Text;
 
@@ -8,5 +8,16 @@ use crate::text::Text;
 pub fn strict(out: &mut Text, s: &[u8], end: usize) -> Result<(), Refusal> {
     brinethimble::strict(s, end)?;
     out.put("accepted");
+    Ok(())
+}
+
+/// `rip`: the pairs of the random index pack, `-` for none.
+pub fn random_index(out: &mut Text, s: &[u8]) -> Result<(), Refusal> {
+    for pair in RandomIndex::of(s)? {
+        out.number(pair.stream.into()).put(",").number(pair.offset).put(",").number(pair.partition.into()).put(";");
+    }
+    if out.0.is_empty() {
+        out.put("-");
+    }
     Ok(())
 }

@@ -15,7 +15,7 @@ pub enum Field {
 }
 
 /// Every word with its fields.
-pub const WORDS: [(&[u8], &[Field]); 31] = [
+pub const WORDS: [(&[u8], &[Field]); 32] = [
     (b"ber", &[]),
     (b"walk", &[Field::End]),
     (b"step", &[Field::End, Field::Number]),
@@ -47,6 +47,7 @@ pub const WORDS: [(&[u8], &[Field]); 31] = [
     (b"passarri", &[Field::End]),
     (b"passcanon", &[Field::End]),
     (b"strict", &[Field::End]),
+    (b"rip", &[]),
 ];
 
 /// A case. Numbers that its word has no field for are 0.

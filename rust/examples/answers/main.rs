@@ -81,6 +81,7 @@ fn reply(out: &mut Text, case: &Case) -> std::result::Result<(), Refusal> {
         b"passarri" => passed::arri(out, s, a)?,
         b"passcanon" => passed::canon(out, s, a)?,
         b"strict" => checks::strict(out, s, a)?,
+        b"rip" => checks::random_index(out, s)?,
         _ => unreachable!("the words of line::WORDS are all here"),
     }
     Ok(())
@@ -117,6 +118,7 @@ mod tests {
         assert_eq!(answered("set 30010008"), "refused 4");
         assert_eq!(answered("strict 1 -"), "refused 1");
         assert_eq!(answered("strict n 00"), "refused 10 0");
+        assert_eq!(answered("rip 00"), "refused 7");
     }
 
     #[test]
@@ -156,6 +158,6 @@ mod tests {
         let no_values = "fl=- fd=- ts=- et=- sa=- tr=- ei=- wb=- nd=- efl=- wbf=- enc=-/-/-/-/-/- tint=- fps=-";
         assert_eq!(answers[..11], ["cut", "|0", "-|0", "", "|0", "|0", "-", "", "", "-", "?"]);
         assert_eq!(answers[11..24], [no_values, "", "0,-", "", "", "", "", "", "", "cut", "", "", ""]);
-        assert_eq!(answers[24..], ["|0,0", "|0,0", "-|0,0", "", "", "", "accepted"]);
+        assert_eq!(answers[24..], ["|0,0", "|0,0", "-|0,0", "", "", "", "accepted", "refused 7"]);
     }
 }
