@@ -40,10 +40,12 @@ extern "C" {
 #define BRINE_END_PAST_BUFFER 1u
 /* More bytes have arrived than the limit. The cursor stays as it was. */
 #define BRINE_PAST_LIMIT 2u
-/* The payload is longer than the lent room. The length that is needed is answered, the room is not written. */
+/* The payload or text is longer than the lent room. The length that is needed is answered, the room is not written. */
 #define BRINE_NO_ROOM 3u
 /* An item of a descriptor runs past its set. */
 #define BRINE_ITEM_PAST_SET 4u
+/* The depth of an outline is not 1 to 8. */
+#define BRINE_DEPTH 6u
 /* brine_random_index: the file or the pack's size is below 21 bytes, or the size is above the file's. */
 #define BRINE_PACK_SIZE 7u
 /* brine_random_index: where the size says, another label than the pack's stands. */
@@ -221,6 +223,19 @@ uint32_t brine_run(const uint8_t *s, size_t s_len, size_t at, uint64_t out[BRINE
  * By the set's label byte 5: 53h is (2, false), 13h is (2, true), 43h is (1, false).
  * out: as brine_run; the tag stands at the record's place. A length of two bytes is 2 bytes and shortest. */
 uint32_t brine_item(const uint8_t *s, size_t s_len, size_t tag, bool ber, size_t at, uint64_t out[BRINE_KLV_PLACES]);
+
+/* ---- An outline: what a file is made of, without its values ----------------------------------------------------------- */
+
+/* The outline of the file s with an end, to a depth of 1 to 8, as text at the start of `text`. Each item is a line: its level, its
+ * label or tag in hex, its length; its own items come after it, one level deeper. At level 1 are the records of brine_step. A
+ * set opens (label byte 4 is 02h, byte 5 is 53h, 13h or 43h), and so does the run in an item 88h of a 43h set, down to the depth.
+ * Bytes behind the last whole item of a set or run show as `rest` and a count. The other values are leaves and don't show: two
+ * files that differ only in leaf values of the first have the same outline.
+ * out: the text's length. Bytes past it keep their contents.
+ * Status: BRINE_DONE; BRINE_END_PAST_BUFFER; BRINE_DEPTH; BRINE_NO_ROOM, with the length that is needed in out and nothing in
+ * the text. The first of them that fits, in this order. */
+uint32_t brine_outline(const uint8_t *s, size_t s_len, size_t end, size_t depth, uint8_t *text, size_t text_len,
+                       uint64_t out[1]);
 
 /* ---- Tables ---------------------------------------------------------------------------------------------------------- */
 

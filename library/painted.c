@@ -12,7 +12,7 @@
 #define STACK (1 << 18)
 #define PAINT 0xa5
 
-static uint8_t bytes[BYTES], other[BYTES], payload[BYTES];
+static uint8_t bytes[BYTES], other[BYTES], payload[BYTES], text[6 * BYTES];
 static uint64_t records[BRINE_BATCH_PLACES * 4096], out[BRINE_ELEMENT_PLACES], kind[BRINE_VALUES], bits[BRINE_VALUES], frame[4];
 static size_t firsts[64], counts[64];
 static int64_t positions[2];
@@ -35,6 +35,7 @@ static void do_arrivals(void) { sink = brine_arrivals(bytes, BYTES, BYTES, 0, 0,
 static void do_tally(void) { sink = brine_tally(bytes, BYTES, firsts, counts, out); }
 static void do_run(void) { sink = brine_run(bytes, BYTES, 0, out); }
 static void do_item(void) { sink = brine_item(bytes, BYTES, 2, true, 0, out); }
+static void do_outline(void) { sink = brine_outline(bytes, BYTES, BYTES, 8, text, 6 * BYTES, out); }
 static void do_header(void) { sink = brine_header(bytes, BYTES, out); }
 static void do_primer(void) { sink = brine_primer(bytes, BYTES, 0x0e2b, out); }
 static void do_arri_block(void) { sink = brine_arri_block(bytes, BYTES, out); }
@@ -61,7 +62,7 @@ static struct {
     size_t most;
 } calls[] = {
     CALL(nothing), CALL(length), CALL(same_label), CALL(next_key), CALL(step), CALL(arrive), CALL(records), CALL(arrivals),
-    CALL(tally), CALL(run), CALL(item), CALL(header), CALL(primer), CALL(arri_block), CALL(payload), CALL(line),
+    CALL(tally), CALL(run), CALL(item), CALL(outline), CALL(header), CALL(primer), CALL(arri_block), CALL(payload), CALL(line),
     CALL(descriptor), CALL(sony_step), CALL(arri_step), CALL(canon_step), CALL(of_dynamic), CALL(of_alexa35),
     CALL(arri_values), CALL(package), CALL(camera), CALL(sequence), CALL(strict),
     CALL(random_index), CALL(pair),
@@ -148,6 +149,20 @@ static const struct {
     {6, {0xff, 0x12, 0x80, 0x00, 0x80, 0x05}},
 };
 
+/* Sets with a run that has a set with a run again, each up to the last of these bytes. */
+static void nested(void)
+{
+    static const uint8_t set[16] = {MINI};
+    const size_t last = 60000;
+    memset(bytes, 0, BYTES);
+    for (size_t at = 0; at + 22 <= last; at += 22) {
+        const uint8_t lengths[] = {0x82, (last - at - 19) >> 8, (last - at - 19) & 0xff, 0x88, (last - at - 22) >> 8, (last - at - 22) & 0xff};
+        memcpy(bytes + at, set, sizeof set);
+        memcpy(bytes + at + 16, lengths, sizeof lengths);
+    }
+    measured();
+}
+
 /* Records of ever other labels, then bytes drawn from a seed. */
 static void drawn(void)
 {
@@ -176,6 +191,7 @@ int main(void)
             measured();
         }
     }
+    nested();
     drawn();
     for (int i = 1; i < CALLS; i++)
         printf("%s %zu\n", calls[i].name, calls[i].most > calls[0].most ? calls[i].most - calls[0].most : 0);

@@ -82,6 +82,7 @@ pub mod cuts;
 pub mod every;
 pub mod files;
 pub mod known;
+pub mod leaves;
 pub mod line;
 pub mod plain;
 pub mod record;

@@ -5,7 +5,7 @@ use std::path::Path;
 use std::process::exit;
 
 use oracle::compare::{Port, report, report_lines};
-use oracle::{answer, arriving, cases, cuts, every, files, known, line, record};
+use oracle::{answer, arriving, cases, cuts, every, files, known, leaves, line, record};
 
 const USAGE: &str = "\
 oracle answer                                    the Rust's answer for each line of the standard input
@@ -15,6 +15,7 @@ oracle compare WORDS COUNT SEED --answers CMD    the port's answers beside the e
 oracle files WORDS FOLDER --answers CMD          the same over the real files of a folder
 oracle cuts WORDS FOLDER --answers CMD           the same over these files at every cut and end, and damaged
 oracle every WORDS --answers CMD                 the same over every small case
+oracle leaves COUNT SEED FOLDER --answers CMD    the port's outlines of files whose leaf bytes are changed
 oracle record WORDS COUNT SEED FOLDER            a sample, as FOLDER/cases.txt and FOLDER/answers.txt
 oracle arriving COUNT SEED [WORD]                an arriving walk beside all short extensions";
 
@@ -29,6 +30,7 @@ fn main() {
         ["files", words, folder, "--answers", command] => compare_files(words, folder, command),
         ["every", words, "--answers", command] => compare_every(words, command),
         ["cuts", words, folder, "--answers", command] => compare_cuts(words, folder, command),
+        ["leaves", count, seed, folder, "--answers", command] => try_leaves(number(count), number(seed), folder, command),
         ["record", words, count, seed, folder] => write_sample(words, number(count), number(seed), folder),
         ["arriving", count, seed] => arriving_beside_extensions("passarrive", number(count), number(seed)),
         ["arriving", count, seed, word] => arriving_beside_extensions(word, number(count), number(seed)),
@@ -110,6 +112,22 @@ fn compare_cuts(words: &str, folder: &str, command: &str) -> Result<bool> {
         }
     }
     Ok(same)
+}
+
+fn try_leaves(count: u64, seed: u64, folder: &str, command: &str) -> Result<bool> {
+    match leaves::check(&port(command), count, seed, Path::new(folder))? {
+        Ok(tried) => {
+            println!(
+                "leaves {count} {seed} {} copies with other leaf bytes no difference, {} of {} copies with another byte changed differ",
+                tried.leaves, tried.changed, tried.others
+            );
+            Ok(tried.changed > 0)
+        }
+        Err([file, copy]) => {
+            println!("file: {file}\ncopy: {copy}\nThe copy has other leaf bytes, and another outline.");
+            Ok(false)
+        }
+    }
 }
 
 /// The words that a list names, with commas, spaces or ends of lines between them.

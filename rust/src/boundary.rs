@@ -55,7 +55,7 @@ impl Values {
 
 include!("calls.rs");
 
-/// What a status says; `told` is the number that comes with some: what a payload without room needs, where records break off.
+/// What a status says; `told` is the number that comes with some: what a payload or text without room needs, where records break off.
 fn answered<T>(status: u32, told: u64, answer: T) -> Result<T, Refusal> {
     let place = told as usize;
     match status {
@@ -64,6 +64,7 @@ fn answered<T>(status: u32, told: u64, answer: T) -> Result<T, Refusal> {
         2 => Err(Refusal::PastLimit),
         3 => Err(Refusal::NoRoom { needed: told as usize }),
         4 => Err(Refusal::ItemPastSet),
+        6 => Err(Refusal::Depth),
         7 => Err(Refusal::PackSize),
         8 => Err(Refusal::PackLabel),
         9 => Err(Refusal::PackLength),
@@ -142,6 +143,13 @@ pub fn item(s: &[u8], tag: usize, ber: bool, at: usize) -> Inside {
     let mut out = [0; 7];
     unsafe { brine_item(s.as_ptr(), s.len(), tag, ber, at, &mut out) };
     out
+}
+
+/// `brine_outline`: the text's length.
+pub fn outline(s: &[u8], end: usize, depth: usize, text: &mut [u8]) -> Result<usize, Refusal> {
+    let mut out = [0];
+    let status = unsafe { brine_outline(s.as_ptr(), s.len(), end, depth, text.as_mut_ptr(), text.len(), &mut out) };
+    answered(status, out[0], out[0] as usize)
 }
 
 /// `brine_header`: found, place, length.

@@ -15,6 +15,9 @@ unsafe extern "C" {
     fn brine_tally(s: *const u8, s_len: usize, firsts: &mut [usize; 64], counts: &mut [usize; 64], out: &mut [u64; 2]) -> u32;
     fn brine_run(s: *const u8, s_len: usize, at: usize, out: &mut [u64; 7]) -> u32;
     fn brine_item(s: *const u8, s_len: usize, tag: usize, ber: bool, at: usize, out: &mut [u64; 7]) -> u32;
+    fn brine_outline(
+        s: *const u8, s_len: usize, end: usize, depth: usize, text: *mut u8, text_len: usize, out: &mut [u64; 1],
+    ) -> u32;
     fn brine_header(s: *const u8, s_len: usize, out: &mut [u64; 3]) -> u32;
     fn brine_primer(s: *const u8, s_len: usize, tag: u64, out: &mut [u64; 2]) -> u32;
     fn brine_arri_block(element: *const u8, element_len: usize, out: &mut [u64; 2]) -> u32;

@@ -23,6 +23,7 @@
 //! | labels, lengths, records, refusals | [`record`] |
 //! | the walk over a file, finished or arriving | [`walk`] |
 //! | runs of records and items of sets, inside values | [`items`] |
+//! | the outline of a file, without its values | [`outline`] |
 //! | header part, primer, descriptor, ST 436 | [`tables`] |
 //! | the frames of Sony's, ARRI's and Canon's files | [`frames`] |
 //! | the values of ARRI's frames | [`values`] |
@@ -37,6 +38,7 @@ pub mod canon;
 pub mod checks;
 pub mod frames;
 pub mod items;
+pub mod outline;
 mod places;
 pub mod record;
 pub mod tables;
@@ -47,6 +49,7 @@ pub use canon::{Camera, Member, Packages, Sequence, Value, camera_metadata, pack
 pub use checks::{Pair, RandomIndex, strict};
 pub use frames::{Arri, Canon, CanonItem, Frame, FrameCursor, Sony};
 pub use items::{Coding, Item, Items, Klvs, klvs, local_items};
+pub use outline::outline_into;
 pub use record::{Length, Record, Refusal, next_key, read_ber, same_label};
 pub use tables::{Area, Descriptor, Lines, Primer, dynamic_metadata, header_partition_metadata, lines, payload_into};
 pub use values::{Distance, Encoders, FrameValues, TStop, of_alexa35, of_dynamic, values_of};

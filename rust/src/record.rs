@@ -27,13 +27,15 @@ pub enum Refusal {
     EndPastBuffer,
     /// 2: more bytes have arrived than the limit.
     PastLimit,
-    /// 3: the payload is longer than the lent room.
+    /// 3: the payload or text is longer than the lent room.
     NoRoom {
-        /// The payload's length.
+        /// Its length.
         needed: usize,
     },
     /// 4: an item of a descriptor runs past its set.
     ItemPastSet,
+    /// 6: the depth of an outline is not 1 to 8.
+    Depth,
     /// 7: the file or its random index pack's size is below 21 bytes, or the size is above the file's.
     PackSize,
     /// 8: no random index pack's label stands where the size says.
@@ -79,6 +81,7 @@ impl Refusal {
             Refusal::PastLimit => 2,
             Refusal::NoRoom { .. } => 3,
             Refusal::ItemPastSet => 4,
+            Refusal::Depth => 6,
             Refusal::PackSize => 7,
             Refusal::PackLabel => 8,
             Refusal::PackLength => 9,
@@ -115,8 +118,9 @@ impl fmt::Display for Refusal {
         match self {
             Refusal::EndPastBuffer => write!(f, "the end is larger than the buffer"),
             Refusal::PastLimit => write!(f, "more bytes have arrived than the limit"),
-            Refusal::NoRoom { needed } => write!(f, "the payload needs {needed} bytes of room"),
+            Refusal::NoRoom { needed } => write!(f, "{needed} bytes of room are needed"),
             Refusal::ItemPastSet => write!(f, "an item runs past its set"),
+            Refusal::Depth => write!(f, "the depth is not 1 to 8"),
             Refusal::PackSize => write!(f, "no size of a random index pack ends the file"),
             Refusal::PackLabel => write!(f, "no random index pack's label stands where the size says"),
             Refusal::PackLength => write!(f, "the random index pack's length does not fit"),
@@ -322,6 +326,7 @@ mod tests {
             Refusal::PastLimit,
             Refusal::NoRoom { needed: 7 },
             Refusal::ItemPastSet,
+            Refusal::Depth,
             Refusal::PackSize,
             Refusal::PackLabel,
             Refusal::PackLength,
@@ -331,8 +336,8 @@ mod tests {
             Refusal::Indefinite { place: 4 },
             Refusal::PastEnd { place: 5 },
         ];
-        assert_eq!(all.map(Refusal::number), [1, 2, 3, 4, 7, 8, 9, 10, 11, 12, 13, 14]);
-        assert_eq!(all[7..].iter().map(|refusal| refusal.place()).collect::<Vec<_>>(), [1, 2, 3, 4, 5].map(Some));
-        assert_eq!(all[2].to_string(), "the payload needs 7 bytes of room");
+        assert_eq!(all.map(Refusal::number), [1, 2, 3, 4, 6, 7, 8, 9, 10, 11, 12, 13, 14]);
+        assert_eq!(all[8..].iter().map(|refusal| refusal.place()).collect::<Vec<_>>(), [1, 2, 3, 4, 5].map(Some));
+        assert_eq!(all[2].to_string(), "7 bytes of room are needed");
     }
 }

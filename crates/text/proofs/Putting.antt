@@ -10,7 +10,7 @@ use lib.ListN.{length, getD, take, set, length-append}
 use lib.Seq.{sets, length-sets, set-out, take-suc, take-all}
 use Rattle.text.specs.Write.{Put}
 
-sets-append : (t u o : List ℕ) (at : ℕ) → sets o at (t ++ u) ≡ sets (sets o at t) (at + length t) u
+pub sets-append : (t u o : List ℕ) (at : ℕ) → sets o at (t ++ u) ≡ sets (sets o at t) (at + length t) u
 sets-append [] u o at = ap (λ (k : ℕ). sets o k u) (omega arith)
 sets-append (a ∷ t) u o at = sets-append t u (set o at a) (suc at) ∙ ap (λ (k : ℕ). sets (sets o at (a ∷ t)) k u) (omega arith)
 

@@ -15,7 +15,7 @@ pub enum Field {
 }
 
 /// Every word with its fields.
-pub const WORDS: [(&[u8], &[Field]); 32] = [
+pub const WORDS: [(&[u8], &[Field]); 33] = [
     (b"ber", &[]),
     (b"walk", &[Field::End]),
     (b"step", &[Field::End, Field::Number]),
@@ -48,6 +48,7 @@ pub const WORDS: [(&[u8], &[Field]); 32] = [
     (b"passcanon", &[Field::End]),
     (b"strict", &[Field::End]),
     (b"rip", &[]),
+    (b"outline", &[Field::End, Field::Number, Field::Number]),
 ];
 
 /// A case. Numbers that its word has no field for are 0.

@@ -6,6 +6,7 @@ mod canon;
 mod checks;
 mod forms;
 mod line;
+mod outline;
 mod passed;
 mod sony;
 mod text;
@@ -42,6 +43,9 @@ fn answer(out: &mut Text, line: &[u8], bytes: &mut Vec<u8>) {
         out.put("refused ").number(refusal.number().into());
         if let Some(place) = refusal.place() {
             out.put(" ").number(place as u64);
+        }
+        if let Refusal::NoRoom { needed } = refusal {
+            out.put(" ").number(needed as u64);
         }
     }
 }
@@ -82,6 +86,7 @@ fn reply(out: &mut Text, case: &Case) -> std::result::Result<(), Refusal> {
         b"passcanon" => passed::canon(out, s, a)?,
         b"strict" => checks::strict(out, s, a)?,
         b"rip" => checks::random_index(out, s)?,
+        b"outline" => outline::outline(out, s, a, b, c)?,
         _ => unreachable!("the words of line::WORDS are all here"),
     }
     Ok(())
@@ -150,6 +155,17 @@ mod tests {
     }
 
     #[test]
+    fn an_outline_has_a_semicolon_for_each_line_end() {
+        let set = "060e2b34025301010d01010101012f00";
+        let file = format!("{set}0c3c0a0002aabb01020000ffff");
+        assert_eq!(answered(&format!("outline n 2 999 {file}")), format!("1 {set} 12;2 3c0a 2;2 0102 0;2 rest 2;"));
+        assert_eq!(answered(&format!("outline n 2 18446744073709551615 {file}")), answered(&format!("outline n 2 999 {file}")));
+        assert_eq!(answered(&format!("outline n 1 37 {file}")), "refused 3 38");
+        assert_eq!(answered(&format!("outline n 9 0 {file}")), "refused 6");
+        assert_eq!(answered(&format!("outline 30 9 0 {file}")), "refused 1");
+    }
+
+    #[test]
     fn every_word_answers_no_bytes() {
         let answers = line::WORDS.map(|(word, fields)| {
             let line = [word, &b" 0".repeat(fields.len())[..], b" -"].concat();
@@ -158,6 +174,6 @@ mod tests {
         let no_values = "fl=- fd=- ts=- et=- sa=- tr=- ei=- wb=- nd=- efl=- wbf=- enc=-/-/-/-/-/- tint=- fps=-";
         assert_eq!(answers[..11], ["cut", "|0", "-|0", "", "|0", "|0", "-", "", "", "-", "?"]);
         assert_eq!(answers[11..24], [no_values, "", "0,-", "", "", "", "", "", "", "cut", "", "", ""]);
-        assert_eq!(answers[24..], ["|0,0", "|0,0", "-|0,0", "", "", "", "accepted", "refused 7"]);
+        assert_eq!(answers[24..], ["|0,0", "|0,0", "-|0,0", "", "", "", "accepted", "refused 7", "refused 6"]);
     }
 }

@@ -1,0 +1,1 @@
+// How long an outline's text is. A statement and its proof, no code.

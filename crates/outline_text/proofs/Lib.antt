@@ -1,0 +1,3 @@
+pub mod Opening
+pub mod Going
+pub mod Said

@@ -1,0 +1,4 @@
+pub mod Agree
+pub mod Items
+pub mod Rules
+pub mod Step
