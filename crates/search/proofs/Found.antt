@@ -14,7 +14,7 @@ use borrow.Author.Tests.{eqb-true}
 use Rattle.labels.specs.Label.{keyAt, keyStart}
 use Rattle.labels.proofs.Beginnings.{begins-so}
 use Rattle.search.specs.Search.{keyBefore, first, firstBelow, keyBegins}
-use Rattle.search.proofs.Laws.{key-past}
+use Rattle.search.proofs.Laws.{key-past, skips, below-up}
 
 module _ (t : ℕ → Bool) where
   first-most : (n q : ℕ) → first t n q ≤ q + n
@@ -60,6 +60,13 @@ module _ (t : ℕ → Bool) where
     pub search-holds : q ≤ e → firstBelow t e q < e → t (firstBelow t e q) ≡ true
     unfolding firstBelow
     search-holds l h = first-holds (e - q) q (omega arith)
+
+-- a place that a search passes is as good as where it starts
+pub search-between : (t : ℕ → Bool) (e from at q : ℕ) → from ≤ at → at ≤ q → q ≤ e → firstBelow t e q ≡ firstBelow t e from → firstBelow t e at ≡ firstBelow t e from
+search-between t e from at q h k m w =
+    let u = below-up t e q in
+    let z : from + (at - from) ≡ at = omega arith in
+    rw z at (skips t e from (at - from) (omega arith) (λ i a b. search-passed t e from i a (omega arith)))
 
 -- a key's start that stands before e has its four bytes there
 pub key-room : (s : List ℕ) (e q : ℕ) → keyBefore s e q ≡ true → q + 4 ≤ e

@@ -105,6 +105,9 @@ module _ (s : List ℕ) where
   pub passes-on : (q k n : ℕ) → Passes s q (q + k) → Passes s (q + k) (q + k + n) → Passes s q (q + (k + n))
   passes-on q k n a b e h = let x : q + (k + n) ≡ q + k + n = omega arith in rw x (b e (omega arith) ∙ a e (omega arith))
 
+  pub passes-then : (p q r : ℕ) → Passes s p q → Passes s q r → q ≤ r → Passes s p r
+  passes-then p q r a b h e m = b e m ∙ a e (omega arith)
+
   pub pair-unmet : (q : ℕ) → (eqb (getD s (q + 1) 0) 0x0e && eqb (getD s (q + 3) 0) 0x34) ≡ false → keyAt s q ≡ false
   unfolding keyAt
   pair-unmet q = go (eqb (getD s q 0) 0x06) (eqb (getD s (q + 1) 0) 0x0e) (eqb (getD s (q + 2) 0) 0x2b) (eqb (getD s (q + 3) 0) 0x34)

@@ -7,6 +7,8 @@ ghost use lib.ListN.{length};
 ghost use Rattle.labels.specs.Label.{keyAt};
 ghost use Rattle.search.specs.Search.{searchFrom, nextKey, keyBegins, waitFrom, Passes};
 use labels::KEY_START;
+use parts::lesser;
+use parts::saturating_sub;
 
 // Whether the four bytes at a place are those that a key starts with.
 fn stands(s: &[u8], q: usize) -> bool
@@ -83,7 +85,7 @@ fn key_among(s: &[u8], at: usize) -> bool
 // How far a search goes in 64 places: past them, or to the 16 that have a key's start.
 fn pass(s: &[u8], at: usize) -> usize
     requires { ⌜ at + 67 ≤ length (now s) ⌝ }
-    ensures { λ r. ⌜ (r ≤ at + 64) × Passes (now (s .entry)) at r ⌝ }
+    ensures { λ r. ⌜ (at ≤ r) × (r ≤ at + 64) × Passes (now (s .entry)) at r ⌝ }
 {
     if !pair_among(s, at) {
         return at + 64;
@@ -114,8 +116,8 @@ fn near(s: &[u8], at: usize) -> usize
     at + k
 }
 
-// The search in the 32 places that are near, then in blocks of 64, and place by place from the 16 that have a key's start
-// and after the last block.
+// The search in the 32 places that are near, then in blocks, and place by place from the 16 that have a key's start. The last
+// block begins as far back as it must to be whole.
 fn seek(s: &[u8], end: usize, from: usize) -> usize
     requires { ⌜ end ≤ length (now s) ⌝ }
     ensures { λ r. ⌜ r ≡ searchFrom (now (s .entry)) end from ⌝ }
@@ -132,14 +134,15 @@ fn seek(s: &[u8], end: usize, from: usize) -> usize
         return first;
     }
     let mut q = first;
-    while q <= last {
-        let r = pass(s, q);
-        if r < q + 64 {
-            return scan(s, end, r);
+    while q < last + 64 {
+        let at = lesser(q, last);
+        let r = pass(s, at);
+        if r < at + 64 {
+            return scan(s, end, q + saturating_sub(r, q));
         }
         q = r;
     }
-    scan(s, end, q)
+    end
 }
 
 // The first place from one on where a key's start stands wholly before the end, else the end, which is cut to the

@@ -21,7 +21,7 @@ add-result : tie.Need-add-result Inv-loop μ-loop
 add-result c = search needs
 
 returns : tie.Need-returns Inv-loop μ-loop
-returns c = (omega arith, c .before .pair-among .ensures (not-true _ (c .if1 .taken)))
+returns c = (omega arith, omega arith, c .before .pair-among .ensures (not-true _ (c .if1 .taken)))
 
 loop-holds : tie.Need-loop-holds Inv-loop μ-loop
 loop-holds c = (omega arith, passes-none _ _)
@@ -36,7 +36,7 @@ add-result-2 : tie.Need-add-result-2 Inv-loop μ-loop
 add-result-2 c = search needs
 
 returns-2 : tie.Need-returns-2 Inv-loop μ-loop
-returns-2 c = (omega arith, c .before .before .before .loop .inv .1)
+returns-2 c = (omega arith, omega arith, c .before .before .before .loop .inv .1)
 
 add-k : tie.Need-add-k Inv-loop μ-loop
 add-k c = search needs
@@ -51,7 +51,7 @@ add-result-3 : tie.Need-add-result-3 Inv-loop μ-loop
 add-result-3 c = search needs
 
 returns-3 : tie.Need-returns-3 Inv-loop μ-loop
-returns-3 c = (omega arith, c .before .loop .inv .1)
+returns-3 c = (omega arith, omega arith, c .before .loop .inv .1)
 
 pub pass-spec : {M : Type 1} → statement M
 pass-spec =

@@ -1,66 +1,51 @@
--- `search::seek` meets its contract. The loop's invariant: the search from where it stands is the search that was asked for.
-use Prim.Native.Nat.{_-_}
-use mathlib.Core.Path.{_≡_, _∙_}
-use borrow.Author.Needs.{needs}
+-- `search::seek` meets its contract. The loop's invariant: the search from where the blocks lead is the search that was asked for.
+use Prim.Native.Nat.{_+_, _-_, _≤_, _<_}
+use mathlib.Core.Path.{_≡_, sym, _∙_}
+use mathlib.Core.Logic.{by-cases}
 use native.Mathlib.Omega.{arith}
-use Rattle.search.specs.Search.{searchFrom}
-use Rattle.search.proofs.Laws.{key-here}
+use native.Mathlib.Decide.{decLt}
+use denote.Ref.{now}
+use Rattle.search.specs.Search.{keyBefore, searchFrom}
+use Rattle.search.proofs.Laws.{key-here, key-none}
+use Rattle.search.proofs.Found.{search-between}
+use borrow.Author.Needs.{needs}
 use Rattle.search.proofs.seek.Statement.{statement}
 use Rattle.search.proofs.seek.Tie as tie
 
 abbrev Inv-loop : tie.InvT-loop
-Inv-loop s end from last first q₀ q = searchFrom s end q ≡ searchFrom s end from
+Inv-loop s end from last first q₀ q = (from ≤ q) × (q ≤ last + 64) × (searchFrom s end q ≡ searchFrom s end from)
 
 abbrev μ-loop : tie.MeasureT-loop
-μ-loop s end from last first q₀ q = end - q
+μ-loop s end from last first q₀ q = last + 64 - q
 
-scan-requires : tie.Need-scan-requires Inv-loop μ-loop
-scan-requires c κs = search needs
+abbrev start-of : tie.At-loop Inv-loop μ-loop → tie.Start Inv-loop μ-loop
+start-of w = w .before .before .before .before .before .before
 
-returns : tie.Need-returns Inv-loop μ-loop
-returns c = c .scan .ensures
-
-scan-requires-2 : tie.Need-scan-requires-2 Inv-loop μ-loop
-scan-requires-2 c κs = search needs
-
-returns-2 : tie.Need-returns-2 Inv-loop μ-loop
-returns-2 c = c .scan2 .ensures
-
-near-requires : tie.Need-near-requires Inv-loop μ-loop
-near-requires c κs = search needs
-
-add-if3 : tie.Need-add-if3 Inv-loop μ-loop
-add-if3 c = search needs
-
-returns-3 : tie.Need-returns-3 Inv-loop μ-loop
-returns-3 c = key-here _ _ _ (omega arith) (c .before .near .ensures .2 (omega arith)) ∙ c .before .near .ensures .1 _ (omega arith)
-
-loop-holds : tie.Need-loop-holds Inv-loop μ-loop
-loop-holds c = c .before .near .ensures .1 _ (omega arith)
-
-pass-requires : tie.Need-pass-requires Inv-loop μ-loop
-pass-requires c κs = search needs
-
-add-if4 : tie.Need-add-if4 Inv-loop μ-loop
-add-if4 c = search needs
-
-scan-requires-3 : tie.Need-scan-requires-3 Inv-loop μ-loop
-scan-requires-3 c κs = search needs
+-- where the search is after a block, from places that were passed
+passed : (c : tie.After-pass Inv-loop μ-loop)
+    → searchFrom (now (start-of (c .before .before .before) .args .s)) (start-of (c .before .before .before) .args .end) (c .pass .result) ≡ searchFrom (now (start-of (c .before .before .before) .args .s)) (start-of (c .before .before .before) .args .end) (start-of (c .before .before .before) .args .from)
+passed c =
+    let w = c .before .before .before in
+    let e = start-of w .args .end in
+    let p = c .pass .ensures in
+    let l = c .before .lesser .ensures in
+    let i = w .loop .inv in
+    p .2 e (omega (arith, p .1)) ∙ search-between (keyBefore (now (start-of w .args .s)) e) e (start-of w .args .from) (c .before .lesser .result) (w .loop .q) (omega (arith, i .0)) (omega arith) (omega (arith, i .1)) (i .2)
 
 returns-4 : tie.Need-returns-4 Inv-loop μ-loop
-returns-4 c = c .scan3 .ensures ∙ c .before .before .pass .ensures .1 _ (omega arith) ∙ c .before .before .before .before .loop .inv
+returns-4 c =
+    let w = c .before .before .before .before .before .before in
+    let m = c .before .saturating-sub .ensures in
+    c .scan3 .ensures
+    ∙ by-cases (decLt (c .before .before .before .pass .result) (w .loop .q))
+    (λ h. let e : w .loop .q + c .before .saturating-sub .result ≡ w .loop .q = omega arith in rw e (w .loop .inv .2))
+    (λ h. let e : w .loop .q + c .before .saturating-sub .result ≡ c .before .before .before .pass .result = omega arith in rw e (passed (c .before .before .before)))
 
-loop-less : tie.Need-loop-less Inv-loop μ-loop
-loop-less c = search needs
-
-loop-again : tie.Need-loop-again Inv-loop μ-loop
-loop-again c = c .before .pass .ensures .1 _ (omega arith) ∙ c .before .before .before .loop .inv
-
-scan-requires-4 : tie.Need-scan-requires-4 Inv-loop μ-loop
-scan-requires-4 c κs = search needs
-
-returns-5 : tie.Need-returns-5 Inv-loop μ-loop
-returns-5 c = c .scan4 .ensures ∙ c .before .before .loop .inv
+bounds : (c : tie.Else4 Inv-loop μ-loop) → (c .before .pass .result ≡ c .before .before .lesser .result + 64) × (c .before .before .before .before .loop .q < c .before .pass .result)
+bounds c =
+    let p = c .before .pass .ensures in
+    let l = c .before .before .lesser .ensures in
+    (omega (arith, p .0, p .1), omega (arith, p .0, p .1, c .before .before .before .loop-test .taken))
 
 pub seek-spec : {M : Type 1} → statement M
 seek-spec =
@@ -68,19 +53,22 @@ seek-spec =
     (tie.spec
     Inv-loop
     μ-loop
-    scan-requires
-    returns
-    scan-requires-2
-    returns-2
-    near-requires
-    add-if3
-    returns-3
-    loop-holds
-    pass-requires
-    add-if4
-    scan-requires-3
+    (λ c κs. search needs)
+    (λ c. search needs)
+    (λ c κs. search needs)
+    (λ c. search needs)
+    (λ c κs. search needs)
+    (λ c. search needs)
+    (λ c. key-here _ _ _ (omega arith) (c .before .near .ensures .2 (omega arith)) ∙ c .before .near .ensures .1 _ (omega arith))
+    (λ c. (omega (arith, c .before .near .ensures .0), omega (arith, c .before .near .ensures .0), c .before .near .ensures .1 _ (omega (arith, c .before .near .ensures .0))))
+    (λ c. search needs)
+    (λ c κs. search needs)
+    (λ c κs. omega (arith, c .lesser .ensures))
+    (λ c. omega (arith, c .before .lesser .ensures))
+    (λ c κs. search needs)
+    (λ c. omega (arith, c .saturating-sub .ensures, c .before .before .pass .ensures .1, c .before .before .before .before .before .loop .inv .1))
+    (λ c κs. search needs)
     returns-4
-    loop-less
-    loop-again
-    scan-requires-4
-    returns-5)
+    (λ c. omega (arith, bounds c .0, bounds c .1, c .before .before .lesser .ensures))
+    (λ c. (omega (arith, bounds c .1, c .before .before .before .before .loop .inv .0), omega (arith, bounds c .0, c .before .before .lesser .ensures), passed (c .before)))
+    (λ c. key-none _ _ _ (omega (arith, c .before .loop .inv .1)) (omega arith) ∙ c .before .loop .inv .2))
