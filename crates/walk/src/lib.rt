@@ -99,19 +99,6 @@ fn searched(s: &[u8], end: usize, limit: usize, from: usize) -> Walked
     }
 }
 
-// The rules from a place on, turn by turn. A search is apart, so that a record that starts there costs no more than a look.
-fn turns(s: &[u8], end: usize, limit: usize, p: usize) -> Walked
-    requires { ⌜ end ≤ length (now s) ⌝ }
-    ensures { λ r. ⌜ r ≡ walked limit (now (s .entry)) end p ⌝ }
-{
-    let t = look(s, end, limit, p);
-    match t {
-        Turn::Stop => Walked::Stopped(p),
-        Turn::Record(k) => Walked::Found(k),
-        Turn::Search(q) => searched(s, end, limit, q),
-    }
-}
-
 // Which walk it is: the finished walk up to an end, or the arriving walk within a limit.
 pub enum Way {
     Finished(usize),
@@ -155,13 +142,20 @@ impl Cursor {
             return Step::Refused;
         }
         let since = lesser(self.since, self.at);
-        let w = turns(s, end, 0, self.at);
-        match w {
-            Walked::Found(k) => found(k, since, k.value + k.len),
-            Walked::Stopped(p) => Step::Rests(Cursor { at: p, since }),
-            Walked::Lost(q) => {
-                let at = larger(end, q);
-                Step::Rests(Cursor { at, since })
+        let t = look(s, end, 0, self.at);
+        match t {
+            Turn::Record(k) => found(k, since, k.value + k.len),
+            Turn::Stop => Step::Rests(Cursor { at: self.at, since }),
+            Turn::Search(from) => {
+                let w = searched(s, end, 0, from);
+                match w {
+                    Walked::Found(k) => found(k, since, k.value + k.len),
+                    Walked::Stopped(p) => Step::Rests(Cursor { at: p, since }),
+                    Walked::Lost(q) => {
+                        let at = larger(end, q);
+                        Step::Rests(Cursor { at, since })
+                    }
+                }
             }
         }
     }
@@ -174,13 +168,20 @@ impl Cursor {
             return Step::Refused;
         }
         let since = lesser(self.since, self.at);
-        let w = turns(a, a.len(), limit, self.at);
-        match w {
-            Walked::Found(k) => found(k, since, k.value + k.len),
-            Walked::Stopped(p) => Step::Rests(Cursor { at: p, since }),
-            Walked::Lost(q) => {
-                let at = search::wait_from(a, q);
-                Step::Rests(Cursor { at, since })
+        let t = look(a, a.len(), limit, self.at);
+        match t {
+            Turn::Record(k) => found(k, since, k.value + k.len),
+            Turn::Stop => Step::Rests(Cursor { at: self.at, since }),
+            Turn::Search(from) => {
+                let w = searched(a, a.len(), limit, from);
+                match w {
+                    Walked::Found(k) => found(k, since, k.value + k.len),
+                    Walked::Stopped(p) => Step::Rests(Cursor { at: p, since }),
+                    Walked::Lost(q) => {
+                        let at = search::wait_from(a, q);
+                        Step::Rests(Cursor { at, since })
+                    }
+                }
             }
         }
     }
