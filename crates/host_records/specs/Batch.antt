@@ -9,7 +9,6 @@ use Rattle.steps.specs.Listed.{atMost, endAtMost}
 use Rattle.host_numbers.specs.Numbers.{mark}
 use Rattle.klv.specs.declared.Klv.{Klv}
 use Rattle.klv.specs.Item.{Item}
-use Rattle.tally.specs.declared.Tally.{Tally}
 use Rattle.host_records.specs.declared.Batch.{Batch}
 
 -- how many places a record takes
@@ -56,7 +55,3 @@ unfoldable pub batchPlaces : (Cursor ℕ → RecordTold) → ℕ → Cursor ℕ 
 batchPlaces step room k out (found c q) = batchSaid (batchOf step room k)
 batchPlaces step room k out (nothing q) = batchSaid (batchOf step room k)
 batchPlaces step room k out (refused n q) = out
-
--- how many groups there are, and how many records are in none
-abbrev pub tallyPlaces : Tally → List ℕ
-tallyPlaces t = t .groups ∷ t .other ∷ []

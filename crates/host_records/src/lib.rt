@@ -1,5 +1,4 @@
-// What a host links of the lists: as many records of a walk as there is lent room for, and the tally
-// (include/brinethimble.h).
+// What a host links of the lists: as many records of a walk as there is lent room for (include/brinethimble.h).
 ghost use mathlib.Core.Path.{_≡_};
 ghost use Prim.Native.Nat.{_+_, _/_, _≤_, _<_};
 ghost use lib.ListN.{length};
@@ -7,8 +6,7 @@ ghost use Rattle.steps.specs.Told.{number};
 ghost use Rattle.steps.specs.Next.{cursor};
 ghost use Rattle.walk.specs.Passed.{finishedPassing, arrivingPassing};
 ghost use Rattle.walk.specs.Told.{cursorOf, stepOn};
-ghost use Rattle.tally.specs.Groups.{groupsOf, answerOf, front};
-ghost use Rattle.host_records.specs.Batch.{placesEach, recordPut, recordsPut, batchAt, batch, batchOf, batchInto, batchPlaces, tallyPlaces};
+ghost use Rattle.host_records.specs.Batch.{placesEach, recordPut, recordsPut, batchAt, batch, batchOf, batchInto, batchPlaces};
 use host_numbers::mark;
 use klv::Klv;
 use walk::Cursor;
@@ -120,23 +118,5 @@ pub extern "C" fn brine_arrivals(
     }
     let b = put_records(a, Way::Arriving(limit), Cursor { at, since }, records);
     *out = [b.count as u64, b.next as u64, b.since as u64];
-    0
-}
-
-// The records of the finished walk over all of s, grouped by same label.
-#[no_mangle]
-pub extern "C" fn brine_tally(
-    s: &[u8],
-    firsts: &mut [usize; 64],
-    counts: &mut [usize; 64],
-    out: &mut [u64; 2],
-) -> u32
-    ensures { λ r. ⌜ r ≡ 0 ⌝ }
-    ensures { λ r. ⌜ now (firsts .exit) ≡ front (groupsOf (now (s .entry)) .firsts) (now (firsts .entry)) ⌝ }
-    ensures { λ r. ⌜ now (counts .exit) ≡ front (groupsOf (now (s .entry)) .counts) (now (counts .entry)) ⌝ }
-    ensures { λ r. ⌜ now (out .exit) ≡ tallyPlaces (answerOf (groupsOf (now (s .entry)))) ⌝ }
-{
-    let t = tally::count_all(s, firsts, counts);
-    *out = [t.groups as u64, t.other as u64];
     0
 }

@@ -4,11 +4,13 @@ ghost use mathlib.Core.Path.{_≡_};
 ghost use lib.ListN.{take, drop};
 ghost use Rattle.labels.specs.Label.{labelAt};
 
+// No two fields that a host is given side by side stand side by side here: they would be loaded as one, right behind two stores, and
+// x86-64 waits for that.
 pub struct Klv {
-    pub at: usize,
     pub value: usize,
-    pub len: usize,
     pub size: usize,
+    pub at: usize,
+    pub len: usize,
     pub shortest: bool,
 }
 

@@ -1,9 +1,9 @@
--- `host_records::brine_tally` answers the tally, its places as the call left them.
+-- `host_tally::brine_tally` answers the tally, its places as the call left them.
 use mathlib.Core.Path.{refl, ap}
-use Rattle.host_records.specs.Batch.{tallyPlaces}
+use Rattle.host_tally.specs.Places.{tallyPlaces}
 use borrow.Author.Needs.{needs}
-use Rattle.host_records.proofs.brine_tally.Statement.{statement}
-use Rattle.host_records.proofs.brine_tally.Tie as tie
+use Rattle.host_tally.proofs.brine_tally.Statement.{statement}
+use Rattle.host_tally.proofs.brine_tally.Tie as tie
 
 count-all-requires : tie.Need-count-all-requires
 count-all-requires c κs = search needs
