@@ -1,8 +1,8 @@
 /* Brinethimble: the records, tables and frames of MXF files, as they land.
  *
- * Every call answers on every input, and ends. None allocates, keeps anything between calls, writes but to the room that is
- * lent to it, or calls back: there is no state, so any number of threads may call at once. Buffers stay the caller's; an
- * answer is a place in the buffer that was handed in, never a pointer.
+ * Every call answers on every input, and ends. None allocates, writes but to the room that is lent to it, or calls back; none
+ * keeps anything between calls but in a state that the host lends. So any number of threads may call at once, each with states of
+ * its own. Buffers stay the caller's; an answer is a place in the buffer that was handed in, or in the file, never a pointer.
  *
  * A buffer is a pointer and a length in bytes. The pointer must be to that many bytes that can be read (for lent room:
  * written), and must not be NULL, not even for a length of 0. Lent room must not overlap the buffer or other lent room.
@@ -38,12 +38,15 @@ extern "C" {
 #define BRINE_DONE 0u
 /* The end is larger than the buffer. The cursor stays as it was. */
 #define BRINE_END_PAST_BUFFER 1u
-/* More bytes have arrived than the limit. The cursor stays as it was. */
+/* More bytes have arrived than the limit; a piece would pass the limit or the known end of a fed walk. The cursor, or the state,
+ * stays as it was. */
 #define BRINE_PAST_LIMIT 2u
 /* The payload or text is longer than the lent room. The length that is needed is answered, the room is not written. */
 #define BRINE_NO_ROOM 3u
 /* An item of a descriptor runs past its set. */
 #define BRINE_ITEM_PAST_SET 4u
+/* A fed walk is closed already; or it is closed before its known end has come. The state stays as it was. */
+#define BRINE_CLOSED 5u
 /* The depth of an outline is not 1 to 8. */
 #define BRINE_DEPTH 6u
 /* brine_random_index: the file or the pack's size is below 21 bytes, or the size is above the file's. */
@@ -204,6 +207,60 @@ uint32_t brine_arrivals(const uint8_t *a, size_t a_len, size_t limit, size_t at,
 #define BRINE_TALLY_PLACES 2
 uint32_t brine_tally(const uint8_t *s, size_t s_len, size_t firsts[BRINE_GROUPS], size_t counts[BRINE_GROUPS],
                      uint64_t out[BRINE_TALLY_PLACES]);
+
+/* ---- A fed walk: records of a file that comes in pieces ---------------------------------------------------------------- */
+
+/* A fed walk never has the whole file. The host lends a state, which each call updates, and feeds the file's bytes in order, in
+ * pieces of any length. The records that come of them are those of the arriving walk, however the pieces are cut, with places in
+ * the file; their bytes are the host's to keep. States go by value: a copy of one is a walk of its own. What a place of a state
+ * is for is the library's; a state that no call made is answered without harm. */
+#define BRINE_STATE 10
+
+/* Opens a walk of at most `limit` bytes. Status: BRINE_DONE. */
+uint32_t brine_fed_limit(size_t limit, uint64_t state[BRINE_STATE]);
+
+/* Opens a walk of exactly `end` bytes. Status: BRINE_DONE. */
+uint32_t brine_fed_end(size_t end, uint64_t state[BRINE_STATE]);
+
+/* Feeds a piece. It is taken up to the byte that completes a record, or all of it; what was not taken is fed next.
+ * out: found, bytes taken, record's place, value's place, value's length, bytes of its length field, shortest (1) or not (0), bytes
+ * passed before the record. Where one was found its label is written to `label`, which else keeps its contents.
+ * Status: BRINE_DONE; BRINE_CLOSED; BRINE_PAST_LIMIT, and none of the piece is taken. */
+#define BRINE_FED_FOUND 0
+#define BRINE_FED_TAKEN 1
+#define BRINE_FED_PLACE 2
+#define BRINE_FED_VALUE 3
+#define BRINE_FED_LENGTH 4
+#define BRINE_FED_LENGTH_BYTES 5
+#define BRINE_FED_SHORTEST 6
+#define BRINE_FED_PASSED 7
+#define BRINE_FED_PLACES 8
+uint32_t brine_feed(uint64_t state[BRINE_STATE], const uint8_t *piece, size_t piece_len, uint8_t label[16],
+                    uint64_t out[BRINE_FED_PLACES]);
+
+/* Feeds a piece until all of it is taken or the lent room is full. Each record takes BRINE_BATCH_PLACES places of `records`, as
+ * with brine_records, and its label 16 bytes of `labels`; places past the last record keep their contents. There is room for as
+ * many as both have it.
+ * out: how many records were put, bytes taken. Where that is not all of the piece, what is left is fed next.
+ * Status: BRINE_DONE; BRINE_CLOSED; BRINE_PAST_LIMIT, and none of the piece is taken. */
+#define BRINE_FILLED_PUT 0
+#define BRINE_FILLED_TAKEN 1
+#define BRINE_FILLED_PLACES 2
+uint32_t brine_feed_records(uint64_t state[BRINE_STATE], const uint8_t *piece, size_t piece_len, uint64_t *records,
+                            size_t records_len, uint8_t *labels, size_t labels_len, uint64_t out[BRINE_FILLED_PLACES]);
+
+/* Closes a walk.
+ * out: BRINE_CLEAN: the records that were found are the finished list of all that was fed. Or BRINE_AGAIN: the last key's value is
+ * not complete; the value's place, and how many bytes came from there on. A new walk with that known end is to be fed these: its
+ * records, so much further on, complete the finished list.
+ * Status: BRINE_DONE, BRINE_CLOSED. */
+#define BRINE_CLEAN 1u
+#define BRINE_AGAIN 2u
+#define BRINE_CLOSE_SAYS 0
+#define BRINE_CLOSE_FROM 1
+#define BRINE_CLOSE_REST 2
+#define BRINE_CLOSE_PLACES 3
+uint32_t brine_close(uint64_t state[BRINE_STATE], uint64_t out[BRINE_CLOSE_PLACES]);
 
 /* ---- Inside values: runs and local items ----------------------------------------------------------------------------- */
 

@@ -13,7 +13,7 @@
 #define PAINT 0xa5
 
 static uint8_t bytes[BYTES], other[BYTES], payload[BYTES], text[6 * BYTES];
-static uint64_t records[BRINE_BATCH_PLACES * 4096], out[BRINE_ELEMENT_PLACES], kind[BRINE_VALUES], bits[BRINE_VALUES], frame[4];
+static uint64_t state[BRINE_STATE], records[BRINE_BATCH_PLACES * 4096], out[BRINE_ELEMENT_PLACES], kind[BRINE_VALUES], bits[BRINE_VALUES], frame[4];
 static size_t firsts[64], counts[64];
 static int64_t positions[2];
 static volatile uint64_t sink;
@@ -32,6 +32,24 @@ static void do_step(void) { sink = brine_step(bytes, BYTES, BYTES, 0, 0, out); }
 static void do_arrive(void) { sink = brine_arrive(bytes, BYTES, SIZE_MAX, 0, 0, out); }
 static void do_records(void) { sink = brine_records(bytes, BYTES, BYTES, 0, 0, records, BRINE_BATCH_PLACES * 4096, out); }
 static void do_arrivals(void) { sink = brine_arrivals(bytes, BYTES, BYTES, 0, 0, records, BRINE_BATCH_PLACES * 4096, out); }
+static void do_fed_limit(void) { sink = brine_fed_limit(SIZE_MAX, state); }
+static void do_fed_end(void) { sink = brine_fed_end(BYTES, state); }
+static void opened(void) { sink = brine_fed_limit(SIZE_MAX, state) + brine_feed(state, bytes, 18, text, out); }
+static void do_feed(void)
+{
+    opened();
+    sink = brine_feed(state, bytes + 18, BYTES - 18, text, out);
+}
+static void do_feed_records(void)
+{
+    opened();
+    sink = brine_feed_records(state, bytes + 18, BYTES - 18, records, BRINE_BATCH_PLACES * 4096, text, 16 * 4096, out);
+}
+static void do_close(void)
+{
+    opened();
+    sink = brine_close(state, out);
+}
 static void do_tally(void) { sink = brine_tally(bytes, BYTES, firsts, counts, out); }
 static void do_run(void) { sink = brine_run(bytes, BYTES, 0, out); }
 static void do_item(void) { sink = brine_item(bytes, BYTES, 2, true, 0, out); }
@@ -62,10 +80,10 @@ static struct {
     size_t most;
 } calls[] = {
     CALL(nothing), CALL(length), CALL(same_label), CALL(next_key), CALL(step), CALL(arrive), CALL(records), CALL(arrivals),
-    CALL(tally), CALL(run), CALL(item), CALL(outline), CALL(header), CALL(primer), CALL(arri_block), CALL(payload), CALL(line),
-    CALL(descriptor), CALL(sony_step), CALL(arri_step), CALL(canon_step), CALL(of_dynamic), CALL(of_alexa35),
-    CALL(arri_values), CALL(package), CALL(camera), CALL(sequence), CALL(strict),
-    CALL(random_index), CALL(pair),
+    CALL(fed_limit), CALL(fed_end), CALL(feed), CALL(feed_records), CALL(close), CALL(tally), CALL(run), CALL(item),
+    CALL(outline), CALL(header), CALL(primer), CALL(arri_block), CALL(payload), CALL(line), CALL(descriptor), CALL(sony_step),
+    CALL(arri_step), CALL(canon_step), CALL(of_dynamic), CALL(of_alexa35), CALL(arri_values), CALL(package), CALL(camera),
+    CALL(sequence), CALL(strict), CALL(random_index), CALL(pair),
 };
 enum { CALLS = sizeof calls / sizeof *calls };
 

@@ -1,5 +1,6 @@
 //! The port's speed beside the published Rust's, as tables in markdown: bench/run builds and runs this.
 
+mod fed;
 mod inputs;
 mod linear;
 mod measure;
@@ -20,6 +21,7 @@ const USAGE: &str = "\
 bench all [FILE]     all tables, with the instructions of each side of each row if a file has them, a number a line
 bench some WORDS ..  the rows whose part and name have these words
 bench linear         the arriving walk alone
+bench fed            the fed walk beside the arriving one
 bench worst          the periodic inputs that the port's search takes longest for
 bench once WORDS ..  each side of each row that has these words once, for counting instructions";
 
@@ -31,6 +33,7 @@ fn main() {
         ["all", file] => all(&counts(file)),
         ["some", ..] => part_by_part(rows().iter().filter(|row| has(row, &args[1..])).map(|row| (row, None))),
         ["linear"] => linear::table(),
+        ["fed"] => fed::table(),
         ["worst"] => worst::table(),
         ["once", ..] => once(&args[1..]),
         _ => println!("{USAGE}"),
@@ -63,6 +66,7 @@ fn all(counts: &[f64]) {
         rows.iter().enumerate().map(|(i, row)| (row, counts.get(2 * i).zip(counts.get(2 * i + 1)).map(|(port, rust)| port / rust))),
     );
     linear::table();
+    fed::table();
 }
 
 /// The rows, with the ratio of their instructions, in a table a part.

@@ -21,6 +21,30 @@ pub fn arrive(a: &[u8], limit: usize, at: usize, since: usize, out: &mut Stepped
     unsafe { brine_arrive(a.as_ptr(), a.len(), limit, at, since, out) };
 }
 
+/// A fed walk of at most so many bytes.
+pub fn fed_limit(limit: usize) -> [u64; 10] {
+    let mut state = [0; 10];
+    unsafe { brine_fed_limit(limit, &mut state) };
+    state
+}
+
+/// What feeding writes: found, bytes taken, place, value's place and length, the length's form, passed.
+pub type Fed = [u64; 8];
+
+/// A piece fed, into lent places.
+pub fn feed(state: &mut [u64; 10], piece: &[u8], label: &mut [u8; 16], out: &mut Fed) {
+    unsafe { brine_feed(state, piece.as_ptr(), piece.len(), label, out) };
+}
+
+/// A piece fed, its records put into lent room: how many were put, bytes taken.
+pub fn feed_records(state: &mut [u64; 10], piece: &[u8], room: &mut [u64], labels: &mut [u8]) -> [u64; 2] {
+    let mut out = [0; 2];
+    unsafe {
+        brine_feed_records(state, piece.as_ptr(), piece.len(), room.as_mut_ptr(), room.len(), labels.as_mut_ptr(), labels.len(), &mut out)
+    };
+    out
+}
+
 /// What a step of a run writes out.
 pub fn run(s: &[u8], at: usize) -> [u64; 7] {
     let mut out = [0; 7];
@@ -124,5 +148,12 @@ pub const EACH: usize = 6;
 pub fn records(s: &[u8], at: usize, since: usize, room: &mut [u64]) -> [u64; 3] {
     let mut out = [0; 3];
     unsafe { brine_records(s.as_ptr(), s.len(), s.len(), at, since, room.as_mut_ptr(), room.len(), &mut out) };
+    out
+}
+
+/// Records of the arriving walk put into lent room: how many were put, the next cursor.
+pub fn arrivals(a: &[u8], limit: usize, at: usize, since: usize, room: &mut [u64]) -> [u64; 3] {
+    let mut out = [0; 3];
+    unsafe { brine_arrivals(a.as_ptr(), a.len(), limit, at, since, room.as_mut_ptr(), room.len(), &mut out) };
     out
 }

@@ -1,7 +1,8 @@
 /* Receives uploads on a loopback port, several at once, and says records and frames of each as soon as they are certain:
  *   receive PORT LIMIT
- * Port 0 is a free one; `listening PORT` says which. LIMIT is the most bytes that an upload may have. An upload is a line with
- * its name (1 to 32 letters, digits, - or _) and then its bytes, up to where the sender closes. upload.h has the lines. */
+ * Port 0 is a free one; `listening PORT BYTES` says which, and how many bytes an upload takes here. LIMIT is the most bytes that
+ * an upload may have. An upload is a line with its name (1 to 32 letters, digits, - or _) and then its bytes, up to where the
+ * sender closes. upload.h has the lines. */
 #include "net.h"
 #include "upload.h"
 
@@ -15,8 +16,7 @@
 #include <unistd.h>
 
 #define MOST_UPLOADS 64
-#define PIECE 65536
-/* How long no byte comes before it is said where the walk waits. */
+/* How long no byte comes before that is said. */
 #define QUIET_MICROSECONDS 200000
 
 static size_t limit;
@@ -44,15 +44,16 @@ static bool read_id(int from, char id[LONGEST_ID + 1])
 /* Takes an upload's bytes up to where the sender closes; false where it is given up. */
 static bool take_all(int from, struct upload *u)
 {
-    uint8_t piece[PIECE];
     bool quiet = false;
     for (;;) {
-        ssize_t n = recv(from, piece, sizeof piece, 0);
+        size_t room;
+        uint8_t *piece = upload_room(u, &room);
+        ssize_t n = recv(from, piece, room, 0);
         if (n == 0)
             return true;
         if (n > 0) {
             quiet = false;
-            if (!upload_take(u, piece, (size_t)n))
+            if (!upload_take(u, (size_t)n))
                 return false;
         } else if (errno == EAGAIN || errno == EWOULDBLOCK) {
             if (!quiet)
@@ -71,11 +72,11 @@ static void *receive(void *connection)
     struct timeval quiet = {.tv_usec = QUIET_MICROSECONDS};
     char id[LONGEST_ID + 1];
     struct upload u;
-    if (read_id(from, id) && upload_start(&u, id, limit)) {
+    if (read_id(from, id)) {
+        upload_start(&u, id, limit);
         setsockopt(from, SOL_SOCKET, SO_RCVTIMEO, &quiet, sizeof quiet);
         if (take_all(from, &u))
             upload_finish(&u);
-        upload_end(&u);
     }
     atomic_fetch_sub(&uploads, 1); /* before the sender can know that its upload is over */
     close(from);
@@ -94,7 +95,7 @@ static bool start(int connection)
     return false;
 }
 
-/* Listens on a loopback port and says which; -1 where it cannot. */
+/* Listens on a loopback port and says which, and how many bytes it keeps for an upload; -1 where it cannot. */
 static int listen_on(uint64_t port)
 {
     struct sockaddr_in here = loopback(port);
@@ -106,14 +107,14 @@ static int listen_on(uint64_t port)
     if (bind(listener, (struct sockaddr *)&here, sizeof here) != 0 || listen(listener, MOST_UPLOADS) != 0 ||
         getsockname(listener, (struct sockaddr *)&here, &length) != 0)
         return -1;
-    printf("listening %u\n", ntohs(here.sin_port));
+    printf("listening %u %zu\n", ntohs(here.sin_port), sizeof(struct upload));
     return listener;
 }
 
 int main(int argc, char **argv)
 {
     uint64_t port, most;
-    if (argc != 3 || !number(argv[1], 65535, &port) || !number(argv[2], SIZE_MAX / 4, &most)) {
+    if (argc != 3 || !number(argv[1], 65535, &port) || !number(argv[2], SIZE_MAX, &most)) {
         fprintf(stderr, "receive PORT LIMIT\n");
         return 1;
     }

@@ -1,15 +1,15 @@
-/* An upload under way: the bytes of it that have arrived, and three walks over them. The first lists records, the others the
- * frames of a camera each; an over-long element is stepped over by the first and searched by its camera's, so each walk has a
- * cursor of its own.
+/* An upload under way: a fed walk over its records, and its last bytes, which have the values of a frame. No more is kept of it,
+ * whatever its sender claims. A record with a camera's label is a frame of that camera.
  *
  * What is said of an upload, a line each, as soon as it is certain:
  *   ID record PLACE LABEL VALUE LENGTH PASSED
- *   ID frame sony NUMBER PLACE VALUE LENGTH PASSED, then the payload's length, or over-long
+ *   ID frame sony NUMBER PLACE VALUE LENGTH PASSED, then the payload's length, or over-long, or not kept
  *   ID frame arri NUMBER PLACE VALUE LENGTH PASSED, then the frame's values, or over-long
- *   ID waits PLACE ARRIVED
- *   ID refused STATUS, or ID no memory
+ *   ID waits ARRIVED
+ *   ID refused STATUS
+ *   ID again VALUE REST
  *   ID records N frames M
- * PASSED is how many bytes were lost before a record or a frame. */
+ * PASSED is how many bytes were lost before a record. */
 #ifndef UPLOAD_H
 #define UPLOAD_H
 
@@ -17,44 +17,34 @@
 
 #define CAMERAS 2
 #define LONGEST_ID 32
+/* So many of the last bytes are always there. ARRI's longest element, label and length included, has at most 8,217. */
+#define KEPT 16384
+#define WINDOW (2 * KEPT)
 
-struct upload;
-
-/* A camera's frame walk: its name, its step, what is said of its frames, its cursor and the next frame's number. */
-struct camera {
-    const char *name;
-    uint32_t (*step)(const uint8_t *s, size_t s_len, size_t end, size_t at, size_t since, uint64_t number,
-                     uint64_t out[BRINE_ELEMENT_PLACES]);
-    void (*tell)(const struct upload *u, const uint64_t frame[BRINE_ELEMENT_PLACES]);
-    size_t at, since;
-    uint64_t number;
-};
-
-/* `room` is what is allocated for `bytes`: at most twice what has arrived, and never more than the limit and a byte. */
+/* `window` has `filled` bytes, the last that arrived. */
 struct upload {
     char id[LONGEST_ID + 1];
-    size_t limit;
-    uint8_t *bytes;
-    size_t arrived;
-    size_t room;
-    size_t at, since;
+    uint64_t walk[BRINE_STATE];
+    uint64_t arrived;
     uint64_t records;
-    struct camera cameras[CAMERAS];
+    uint64_t frames[CAMERAS];
+    size_t filled;
+    uint8_t window[WINDOW];
 };
 
-/* Starts an upload of at most `limit` bytes, at most SIZE_MAX / 4; false where there is no memory. */
-bool upload_start(struct upload *u, const char *id, size_t limit);
+/* Starts an upload of at most `limit` bytes. */
+void upload_start(struct upload *u, const char *id, size_t limit);
 
-/* Keeps a piece that has arrived, and says what has become certain with it; false where the upload is given up. */
-bool upload_take(struct upload *u, const uint8_t *piece, size_t length);
+/* The room that the next bytes are to be read into; there is some. */
+uint8_t *upload_room(struct upload *u, size_t *room);
 
-/* Says where the walk over records waits. */
+/* Takes bytes that were read into the room, and says what has become certain with them; false where the upload is given up. */
+bool upload_take(struct upload *u, size_t length);
+
+/* Says that no bytes come. */
 void upload_waits(const struct upload *u);
 
-/* Walks the rest as finished, for the sender has closed, and says how much was found. */
+/* Closes the walk, for the sender has closed, and says how much was found. */
 void upload_finish(struct upload *u);
-
-/* Gives the bytes back. */
-void upload_end(struct upload *u);
 
 #endif

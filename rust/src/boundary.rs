@@ -64,6 +64,7 @@ fn answered<T>(status: u32, told: u64, answer: T) -> Result<T, Refusal> {
         2 => Err(Refusal::PastLimit),
         3 => Err(Refusal::NoRoom { needed: told as usize }),
         4 => Err(Refusal::ItemPastSet),
+        5 => Err(Refusal::Closed),
         6 => Err(Refusal::Depth),
         7 => Err(Refusal::PackSize),
         8 => Err(Refusal::PackLabel),
@@ -121,6 +122,47 @@ pub fn arrivals(a: &[u8], limit: usize, Cursor { at, since }: Cursor, records: &
     let mut out = [0; 3];
     let (room, places) = (records.as_mut_ptr(), records.len());
     let status = unsafe { brine_arrivals(a.as_ptr(), a.len(), limit, at, since, room, places, &mut out) };
+    answered(status, 0, out)
+}
+
+/// A fed walk's state.
+pub type State = [u64; 10];
+
+/// `brine_fed_limit`.
+pub fn fed_limit(limit: usize) -> State {
+    let mut state = [0; 10];
+    unsafe { brine_fed_limit(limit, &mut state) };
+    state
+}
+
+/// `brine_fed_end`.
+pub fn fed_end(end: usize) -> State {
+    let mut state = [0; 10];
+    unsafe { brine_fed_end(end, &mut state) };
+    state
+}
+
+/// `brine_feed`: found, bytes taken, place, value's place, value's length, bytes of the length field, shortest or not, bytes passed;
+/// and the label of what was found.
+pub fn feed(state: &mut State, piece: &[u8]) -> Result<([u64; 8], [u8; 16]), Refusal> {
+    let (mut out, mut label) = ([0; 8], [0; 16]);
+    let status = unsafe { brine_feed(state, piece.as_ptr(), piece.len(), &mut label, &mut out) };
+    answered(status, 0, (out, label))
+}
+
+/// `brine_feed_records`: how many records were put, bytes taken.
+pub fn feed_records(state: &mut State, piece: &[u8], records: &mut [u64], labels: &mut [u8]) -> Result<[u64; 2], Refusal> {
+    let mut out = [0; 2];
+    let (room, places) = (records.as_mut_ptr(), records.len());
+    let (names, bytes) = (labels.as_mut_ptr(), labels.len());
+    let status = unsafe { brine_feed_records(state, piece.as_ptr(), piece.len(), room, places, names, bytes, &mut out) };
+    answered(status, 0, out)
+}
+
+/// `brine_close`: 1 clean or 2 again, the value's place, the rest.
+pub fn close(state: &mut State) -> Result<[u64; 3], Refusal> {
+    let mut out = [0; 3];
+    let status = unsafe { brine_close(state, &mut out) };
     answered(status, 0, out)
 }
 

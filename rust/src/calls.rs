@@ -12,6 +12,16 @@ unsafe extern "C" {
     fn brine_arrivals(
         a: *const u8, a_len: usize, limit: usize, at: usize, since: usize, records: *mut u64, records_len: usize, out: &mut [u64; 3],
     ) -> u32;
+    fn brine_fed_limit(limit: usize, state: &mut [u64; 10]) -> u32;
+    fn brine_fed_end(end: usize, state: &mut [u64; 10]) -> u32;
+    fn brine_feed(
+        state: &mut [u64; 10], piece: *const u8, piece_len: usize, label: &mut [u8; 16], out: &mut [u64; 8],
+    ) -> u32;
+    fn brine_feed_records(
+        state: &mut [u64; 10], piece: *const u8, piece_len: usize, records: *mut u64, records_len: usize, labels: *mut u8,
+        labels_len: usize, out: &mut [u64; 2],
+    ) -> u32;
+    fn brine_close(state: &mut [u64; 10], out: &mut [u64; 3]) -> u32;
     fn brine_tally(s: *const u8, s_len: usize, firsts: &mut [usize; 64], counts: &mut [usize; 64], out: &mut [u64; 2]) -> u32;
     fn brine_run(s: *const u8, s_len: usize, at: usize, out: &mut [u64; 7]) -> u32;
     fn brine_item(s: *const u8, s_len: usize, tag: usize, ber: bool, at: usize, out: &mut [u64; 7]) -> u32;

@@ -1,7 +1,8 @@
 //! The records, tables and frames of MXF files, as they land.
 //!
 //! A safe crate over a library in which every function is proved. Every call answers on every input and ends; none allocates,
-//! trusts a length or a count, or keeps anything between calls. What is found is a part of the buffer that was lent.
+//! trusts a length or a count, or keeps anything between calls but in a value that the caller has. What is found is a part of the
+//! buffer that was lent, or, in a fed walk, a place in the file.
 //!
 //! ```
 //! let label = *b"\x06\x0e\x2b\x34\x01\x01\x01\x0d\x0e\x15\x00\x01\x00\x01\x00\x00";
@@ -22,6 +23,7 @@
 //! |---|---|
 //! | labels, lengths, records, refusals | [`record`] |
 //! | the walk over a file, finished or arriving | [`walk`] |
+//! | the walk over a file that comes in pieces | [`feeding`] |
 //! | runs of records and items of sets, inside values | [`items`] |
 //! | the outline of a file, without its values | [`outline`] |
 //! | header part, primer, descriptor, ST 436 | [`tables`] |
@@ -36,6 +38,7 @@
 mod boundary;
 pub mod canon;
 pub mod checks;
+pub mod feeding;
 pub mod frames;
 pub mod items;
 pub mod outline;
@@ -47,6 +50,7 @@ pub mod walk;
 
 pub use canon::{Camera, Member, Packages, Sequence, Value, camera_metadata, package_metadata, stream_file_sequence_info};
 pub use checks::{Pair, RandomIndex, strict};
+pub use feeding::{Ending, Fed, FedRecord, Feeding, Piece};
 pub use frames::{Arri, Canon, CanonItem, Frame, FrameCursor, Sony};
 pub use items::{Coding, Item, Items, Klvs, klvs, local_items};
 pub use outline::outline_into;

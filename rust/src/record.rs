@@ -25,7 +25,7 @@ use crate::walk::Cursor;
 pub enum Refusal {
     /// 1: the end is larger than the buffer.
     EndPastBuffer,
-    /// 2: more bytes have arrived than the limit.
+    /// 2: more bytes have arrived than the limit, or a piece would pass the limit or the known end.
     PastLimit,
     /// 3: the payload or text is longer than the lent room.
     NoRoom {
@@ -34,6 +34,8 @@ pub enum Refusal {
     },
     /// 4: an item of a descriptor runs past its set.
     ItemPastSet,
+    /// 5: a fed walk is closed already, or it is closed before its known end has come.
+    Closed,
     /// 6: the depth of an outline is not 1 to 8.
     Depth,
     /// 7: the file or its random index pack's size is below 21 bytes, or the size is above the file's.
@@ -81,6 +83,7 @@ impl Refusal {
             Refusal::PastLimit => 2,
             Refusal::NoRoom { .. } => 3,
             Refusal::ItemPastSet => 4,
+            Refusal::Closed => 5,
             Refusal::Depth => 6,
             Refusal::PackSize => 7,
             Refusal::PackLabel => 8,
@@ -120,6 +123,7 @@ impl fmt::Display for Refusal {
             Refusal::PastLimit => write!(f, "more bytes have arrived than the limit"),
             Refusal::NoRoom { needed } => write!(f, "{needed} bytes of room are needed"),
             Refusal::ItemPastSet => write!(f, "an item runs past its set"),
+            Refusal::Closed => write!(f, "the walk is closed, or its known end has not come"),
             Refusal::Depth => write!(f, "the depth is not 1 to 8"),
             Refusal::PackSize => write!(f, "no size of a random index pack ends the file"),
             Refusal::PackLabel => write!(f, "no random index pack's label stands where the size says"),

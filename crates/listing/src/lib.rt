@@ -44,7 +44,7 @@ fn put_records(out: &mut [u8], at: usize, s: &[u8]) -> Lines
 }
 
 // Puts `records N`.
-fn put_count(out: &mut [u8], at: usize, n: usize) -> usize
+pub fn put_count(out: &mut [u8], at: usize, n: usize) -> usize
     ensures { λ r. ⌜ Put (countLine n) (now (out .entry)) at (now (out .exit)) r ⌝ }
 {
     let a = put_all(out, at, b"records ");

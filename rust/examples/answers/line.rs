@@ -12,10 +12,12 @@ pub enum Field {
     Number,
     /// 0 or 1.
     Coding,
+    /// Digits: how long the pieces are that the bytes are fed in.
+    Cut,
 }
 
 /// Every word with its fields.
-pub const WORDS: [(&[u8], &[Field]); 33] = [
+pub const WORDS: [(&[u8], &[Field]); 35] = [
     (b"ber", &[]),
     (b"walk", &[Field::End]),
     (b"step", &[Field::End, Field::Number]),
@@ -49,17 +51,20 @@ pub const WORDS: [(&[u8], &[Field]); 33] = [
     (b"strict", &[Field::End]),
     (b"rip", &[]),
     (b"outline", &[Field::End, Field::Number, Field::Number]),
+    (b"fed", &[Field::Number, Field::Cut]),
+    (b"fedend", &[Field::End, Field::Cut]),
 ];
 
-/// A case. Numbers that its word has no field for are 0.
+/// A case. Numbers that its word has no field for are 0, and a cut is empty.
 pub struct Case<'a> {
     pub word: &'static [u8],
     pub numbers: [usize; 3],
+    pub cut: &'a [u8],
     pub bytes: &'a [u8],
 }
 
 /// The case that a line is, if it is one; `room` holds its bytes.
-pub fn parse<'a>(line: &[u8], room: &'a mut Vec<u8>) -> Option<Case<'a>> {
+pub fn parse<'a>(line: &'a [u8], room: &'a mut Vec<u8>) -> Option<Case<'a>> {
     if line.len() > LONGEST {
         return None;
     }
@@ -71,11 +76,15 @@ pub fn parse<'a>(line: &[u8], room: &'a mut Vec<u8>) -> Option<Case<'a>> {
         *text = parts.next()?;
     }
     read_bytes(parts.next()?, room)?;
-    let mut numbers = [0; 3];
+    let (mut numbers, mut cut) = ([0; 3], &[][..]);
     for (number, (field, text)) in numbers.iter_mut().zip(fields.iter().zip(texts)) {
-        *number = number_of(*field, text, room.len())?;
+        match field {
+            Field::Cut if text.is_empty() || !text.iter().all(u8::is_ascii_digit) => return None,
+            Field::Cut => cut = text,
+            _ => *number = number_of(*field, text, room.len())?,
+        }
     }
-    parts.next().is_none().then_some(Case { word, numbers, bytes: room })
+    parts.next().is_none().then_some(Case { word, numbers, cut, bytes: room })
 }
 
 /// The number that a field's text stands for in a case of `count` bytes.

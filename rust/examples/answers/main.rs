@@ -4,6 +4,7 @@
 mod arri;
 mod canon;
 mod checks;
+mod fed;
 mod forms;
 mod line;
 mod outline;
@@ -14,7 +15,7 @@ mod walk;
 
 use std::io::{BufRead, BufReader, BufWriter, Result, Write, stdin, stdout};
 
-use brinethimble::{Cursor, Refusal};
+use brinethimble::{Cursor, Feeding, Refusal};
 use line::Case;
 use text::Text;
 
@@ -87,6 +88,8 @@ fn reply(out: &mut Text, case: &Case) -> std::result::Result<(), Refusal> {
         b"strict" => checks::strict(out, s, a)?,
         b"rip" => checks::random_index(out, s)?,
         b"outline" => outline::outline(out, s, a, b, c)?,
+        b"fed" => fed::fed(out, Feeding::limit(a), case.cut, s),
+        b"fedend" => fed::fed(out, Feeding::end(a), case.cut, s),
         _ => unreachable!("the words of line::WORDS are all here"),
     }
     Ok(())

@@ -1,8 +1,9 @@
 //! Receives uploads on a loopback port, several at once, and says records and frames of each as soon as they are certain:
 //! `receive PORT LIMIT`.
 //!
-//! Port 0 is a free one; `listening PORT` says which. LIMIT is the most bytes that an upload may have. An upload is a line with
-//! its name (1 to 32 letters, digits, `-` or `_`) and then its bytes, up to where the sender closes. `upload` has the lines.
+//! Port 0 is a free one; `listening PORT BYTES` says which, and how many bytes an upload takes here. LIMIT is the most bytes that
+//! an upload may have. An upload is a line with its name (1 to 32 letters, digits, `-` or `_`) and then its bytes, up to where the
+//! sender closes. `upload` has the lines.
 
 mod upload;
 
@@ -17,8 +18,7 @@ use upload::Upload;
 
 const MOST_UPLOADS: usize = 64;
 const LONGEST_ID: usize = 32;
-const PIECE: usize = 65_536;
-/// How long no byte comes before it is said where the walk waits.
+/// How long no byte comes before that is said.
 const QUIET: Duration = Duration::from_millis(200);
 
 static UPLOADS: AtomicUsize = AtomicUsize::new(0);
@@ -38,14 +38,13 @@ fn main() -> ExitCode {
 /// The port and the limit.
 fn read_arguments(arguments: &[String]) -> Option<(u16, usize)> {
     let [port, limit] = arguments else { return None };
-    let limit = limit.parse().ok().filter(|limit| *limit <= usize::MAX / 4)?;
-    Some((port.parse().ok()?, limit))
+    Some((port.parse().ok()?, limit.parse().ok()?))
 }
 
 /// Listens on a loopback port and starts a thread for each upload, as many as there may be.
 fn serve(port: u16, limit: usize) -> Result<()> {
     let listener = TcpListener::bind((Ipv4Addr::LOCALHOST, port))?;
-    println!("listening {}", listener.local_addr()?.port());
+    println!("listening {} {}", listener.local_addr()?.port(), size_of::<Upload>());
     loop {
         let Ok((mut connection, _)) = listener.accept() else { continue };
         if UPLOADS.fetch_add(1, Ordering::Relaxed) >= MOST_UPLOADS {
@@ -89,14 +88,13 @@ fn read_id(connection: &mut TcpStream) -> Option<String> {
 
 /// Takes an upload's bytes up to where the sender closes; false where it is given up.
 fn take_all(connection: &mut TcpStream, upload: &mut Upload) -> bool {
-    let mut piece = [0; PIECE];
     let mut quiet = false;
     loop {
-        match connection.read(&mut piece) {
+        match connection.read(upload.room()) {
             Ok(0) => return true,
             Ok(n) => {
                 quiet = false;
-                if !upload.take(&piece[..n]) {
+                if !upload.take(n) {
                     return false;
                 }
             }

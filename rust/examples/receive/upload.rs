@@ -1,76 +1,51 @@
-//! An upload under way: the bytes of it that have arrived, and three walks over them. The first lists records, the others the
-//! frames of a camera each; an over-long element is stepped over by the first and searched by its camera's, so each walk has a
-//! cursor of its own.
+//! An upload under way: a fed walk over its records, and its last bytes, which have the values of a frame. No more is kept of it,
+//! whatever its sender claims. A record with a camera's label is a frame of that camera.
 //!
 //! What is said of an upload, a line each, as soon as it is certain:
 //!
 //! ```text
 //! ID record PLACE LABEL VALUE LENGTH PASSED
-//! ID frame sony NUMBER PLACE VALUE LENGTH PASSED, then the payload's length, or over-long
+//! ID frame sony NUMBER PLACE VALUE LENGTH PASSED, then the payload's length, or over-long, or not kept
 //! ID frame arri NUMBER PLACE VALUE LENGTH PASSED, then the frame's values, or over-long
-//! ID waits PLACE ARRIVED
-//! ID refused STATUS, or ID no memory
+//! ID waits ARRIVED
+//! ID refused STATUS
+//! ID again VALUE REST
 //! ID records N frames M
 //! ```
 //!
-//! PASSED is how many bytes were lost before a record or a frame.
+//! PASSED is how many bytes were lost before a record.
 
-use brinethimble::{
-    Arri, Arriving, Cursor, Distance, Frame, FrameCursor, FrameValues, Record, Refusal, Sony, TStop, next_klv, payload_into, values_of,
-};
+use brinethimble::{Arri, Distance, Ending, FedRecord, Feeding, Frame, Refusal, Sony, TStop, payload_into, values_of};
 
+/// So many of the last bytes are always there. ARRI's longest element, label and length included, has at most 8,217.
+const KEPT: usize = 16_384;
+const WINDOW: usize = 2 * KEPT;
 const PAYLOAD_ROOM: usize = 4096;
 
-/// A camera, by its frame walk.
-#[derive(Clone, Copy)]
-enum Camera {
-    Sony,
-    Arri,
+/// A camera: its name, its longest value, the frame that its walk takes an element for, and what is told of that.
+struct Camera {
+    name: &'static str,
+    longest: usize,
+    frame: fn(&[u8]) -> Option<Frame<'_>>,
+    tell: fn(&[u8], &Frame) -> String,
 }
 
-/// A frame, and the cursor behind it.
-type Framed<'a> = (Frame<'a>, FrameCursor);
-
-/// A camera's cursor as the walk's over records.
-fn as_records(cursor: &FrameCursor) -> Cursor {
-    Cursor { at: cursor.at, since: cursor.since }
-}
+const CAMERAS: [Camera; 2] = [
+    Camera { name: "sony", longest: 23_723_672, frame: |s| Sony::new(s, s.len()).ok()?.next(), tell: tell_payload },
+    Camera { name: "arri", longest: 8_192, frame: |s| Arri::new(s, s.len()).ok()?.next(), tell: tell_values },
+];
 
 impl Camera {
-    /// The camera's name.
-    fn name(self) -> &'static str {
-        match self {
-            Camera::Sony => "sony",
-            Camera::Arri => "arri",
-        }
-    }
-
-    /// A step of the camera's walk up to an end, from a cursor.
-    fn step(self, s: &[u8], end: usize, cursor: FrameCursor) -> Result<Option<Framed<'_>>, Refusal> {
-        match self {
-            Camera::Sony => {
-                let mut walk = Sony::from_cursor(s, end, cursor)?;
-                Ok(walk.next().map(|frame| (frame, walk.cursor())))
-            }
-            Camera::Arri => {
-                let mut walk = Arri::from_cursor(s, end, cursor)?;
-                Ok(walk.next().map(|frame| (frame, walk.cursor())))
-            }
-        }
-    }
-
-    /// What is told of a frame besides its places.
-    fn tell(self, s: &[u8], frame: &Frame) -> String {
-        match self {
-            _ if frame.overlong => " over-long".into(),
-            Camera::Sony => tell_payload(frame),
-            Camera::Arri => values_of(s, frame).map_or(" no values".into(), |values| tell_values(&values)),
-        }
+    /// Whether a label is the camera's: its walk takes the label with an empty value for a frame.
+    fn has(&self, label: &[u8; 16]) -> bool {
+        let mut element = [0; 17];
+        element[..16].copy_from_slice(label);
+        (self.frame)(&element).is_some()
     }
 }
 
 /// How long the payload of a Sony frame is; what there is no room for is refused with the length that it needs.
-fn tell_payload(frame: &Frame) -> String {
+fn tell_payload(_: &[u8], frame: &Frame) -> String {
     match payload_into(frame.element.value, &mut [0; PAYLOAD_ROOM]) {
         Ok(length) => format!(" payload {length}"),
         Err(Refusal::NoRoom { needed }) => format!(" payload {needed} refused 3"),
@@ -79,7 +54,8 @@ fn tell_payload(frame: &Frame) -> String {
 }
 
 /// The lens, focus, exposure and tilt of an ARRI frame, what there is of them.
-fn tell_values(values: &FrameValues) -> String {
+fn tell_values(element: &[u8], frame: &Frame) -> String {
+    let Some(values) = values_of(element, frame) else { return " no values".into() };
     let figure = |name, figure: Option<f64>| figure.map(|figure| format!(" {name} {figure:.3}"));
     let single = |name, single: Option<f32>| figure(name, single.map(f64::from));
     let whole = |name, whole: Option<u32>| whole.map(|whole| format!(" {name} {whole}"));
@@ -105,109 +81,86 @@ fn tell_values(values: &FrameValues) -> String {
     told.into_iter().flatten().collect()
 }
 
-/// An upload. What is allocated for `bytes` is at most twice what has arrived, and never more than the limit and a byte.
+/// An upload. `window` has `filled` bytes, the last that arrived.
 pub struct Upload {
     id: String,
-    limit: usize,
-    bytes: Vec<u8>,
-    walk: Arriving,
+    walk: Feeding,
+    arrived: usize,
     records: u64,
-    cameras: [(Camera, FrameCursor); 2],
+    frames: [u64; CAMERAS.len()],
+    filled: usize,
+    window: [u8; WINDOW],
 }
 
 impl Upload {
     /// An upload of at most `limit` bytes.
     pub fn new(id: String, limit: usize) -> Self {
-        let cameras = [(Camera::Sony, FrameCursor::default()), (Camera::Arri, FrameCursor::default())];
-        Upload { id, limit, bytes: Vec::new(), walk: Arriving::new(limit), records: 0, cameras }
+        Upload { id, walk: Feeding::limit(limit), arrived: 0, records: 0, frames: [0; 2], filled: 0, window: [0; WINDOW] }
     }
 
-    /// Keeps a piece that has arrived, and says what has become certain with it; false where the upload is given up.
-    pub fn take(&mut self, piece: &[u8]) -> bool {
-        let most = self.limit + 1 - self.bytes.len(); // a byte past the limit, for the library to refuse
-        let piece = &piece[..piece.len().min(most)];
-        if !self.make_room(piece.len()) {
-            println!("{} no memory", self.id);
-            return false;
+    /// The room that the next bytes are to be read into; there is some.
+    pub fn room(&mut self) -> &mut [u8] {
+        if self.filled == WINDOW {
+            self.window.copy_within(WINDOW - KEPT.., 0);
+            self.filled = KEPT;
         }
-        self.bytes.extend_from_slice(piece);
-        match self.follow_records().and_then(|()| self.follow_frames()) {
-            Ok(()) => true,
-            Err(refusal) => {
-                println!("{} refused {}", self.id, refusal.number());
-                false
+        &mut self.window[self.filled..]
+    }
+
+    /// Takes bytes that were read into the room, and says what has become certain with them; false where the upload is given up.
+    pub fn take(&mut self, length: usize) -> bool {
+        let end = self.filled + length;
+        while self.filled < end {
+            match self.walk.feed(&self.window[self.filled..end]) {
+                Ok(fed) => {
+                    self.filled += fed.taken;
+                    self.arrived += fed.taken;
+                    fed.record.iter().for_each(|record| self.say_record(record));
+                }
+                Err(refusal) => {
+                    println!("{} refused {}", self.id, refusal.number());
+                    return false;
+                }
             }
         }
+        true
     }
 
-    /// Makes room for a piece that is here, by doubling: no length that a stranger claims is asked for.
-    fn make_room(&mut self, piece: usize) -> bool {
-        let (arrived, room) = (self.bytes.len(), self.bytes.capacity());
-        let needed = arrived + piece;
-        needed <= room || self.bytes.try_reserve_exact(needed.max(2 * room).min(self.limit + 1) - arrived).is_ok()
-    }
-
-    /// Says the records that have become certain.
-    fn follow_records(&mut self) -> Result<(), Refusal> {
-        while let Some(record) = self.walk.next_klv(&self.bytes)? {
-            say_record(&self.id, &record);
-            self.records += 1;
+    /// Says a record that has just come, and the frame that it is.
+    fn say_record(&mut self, record: &FedRecord) {
+        let FedRecord { place, label, value_place, value_length, passed, .. } = record;
+        println!("{} record {place} {:032x} {value_place} {value_length} {passed}", self.id, u128::from_be_bytes(*label));
+        self.records += 1;
+        for (i, camera) in CAMERAS.iter().enumerate().filter(|(_, camera)| camera.has(label)) {
+            let told = self.told(camera, record);
+            println!("{} frame {} {} {place} {value_place} {value_length} {passed}{told}", self.id, camera.name, self.frames[i]);
+            self.frames[i] += 1;
         }
-        Ok(())
     }
 
-    /// Says the frames that have become certain: of each record of a camera's own walk, the frame that it alone is.
-    fn follow_frames(&mut self) -> Result<(), Refusal> {
-        for (camera, cursor) in &mut self.cameras {
-            let mut walk = Arriving::from_cursor(self.limit, as_records(cursor));
-            while let Some(record) = walk.next_klv(&self.bytes)? {
-                let from = FrameCursor { at: record.place, since: record.place - record.passed, number: cursor.number };
-                let Some((frame, next)) = camera.step(&self.bytes, walk.cursor().at, from)? else { continue };
-                say_frame(&self.id, *camera, &self.bytes, &frame);
-                *cursor = next;
-                walk = Arriving::from_cursor(self.limit, as_records(cursor));
-            }
-            let Cursor { at, since } = walk.cursor();
-            *cursor = FrameCursor { at, since, number: cursor.number };
+    /// What is told of a frame that has just come, besides its places.
+    fn told(&self, camera: &Camera, record: &FedRecord) -> String {
+        let size = record.value_place - record.place + record.value_length;
+        if record.value_length > camera.longest {
+            return " over-long".into();
         }
-        Ok(())
+        if size > KEPT {
+            return " not kept".into();
+        }
+        let element = &self.window[self.filled - size..self.filled];
+        (camera.frame)(element).map(|frame| (camera.tell)(element, &frame)).unwrap_or_default()
     }
 
-    /// Says where the walk over records waits.
+    /// Says that no bytes come.
     pub fn say_waits(&self) {
-        println!("{} waits {} {}", self.id, self.walk.cursor().at, self.bytes.len());
+        println!("{} waits {}", self.id, self.arrived);
     }
 
-    /// Walks the rest as finished, for the sender has closed, and says how much was found.
-    pub fn finish(mut self) {
-        let (s, end) = (&self.bytes[..], self.bytes.len());
-        let mut cursor = self.walk.cursor();
-        while let Ok((Some(record), next)) = next_klv(s, end, cursor) {
-            say_record(&self.id, &record);
-            self.records += 1;
-            cursor = next;
+    /// Closes the walk, for the sender has closed, and says how much was found.
+    pub fn finish(&mut self) {
+        if let Ok(Ending::Again { from, rest }) = self.walk.close() {
+            println!("{} again {from} {rest}", self.id);
         }
-        let mut frames = 0;
-        for (camera, mut cursor) in self.cameras {
-            while let Ok(Some((frame, next))) = camera.step(s, end, cursor) {
-                say_frame(&self.id, camera, s, &frame);
-                cursor = next;
-            }
-            frames += cursor.number;
-        }
-        println!("{} records {} frames {frames}", self.id, self.records);
+        println!("{} records {} frames {}", self.id, self.records, self.frames.iter().sum::<u64>());
     }
-}
-
-/// Says a record.
-fn say_record(id: &str, record: &Record) {
-    let label = u128::from_be_bytes(*record.label);
-    println!("{id} record {} {label:032x} {} {} {}", record.place, record.value_place, record.value.len(), record.passed);
-}
-
-/// Says a frame of the bytes that have arrived.
-fn say_frame(id: &str, camera: Camera, s: &[u8], frame: &Frame) {
-    let (name, element, told) = (camera.name(), &frame.element, camera.tell(s, frame));
-    let Record { place, value_place, value, passed, .. } = element;
-    println!("{id} frame {name} {} {place} {value_place} {} {passed}{told}", frame.number, value.len());
 }

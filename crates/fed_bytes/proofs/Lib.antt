@@ -1,0 +1,10 @@
+pub mod Laws
+pub mod Keys
+pub mod Moved
+pub mod Prefixes
+pub mod Filled
+pub mod Coming
+pub mod Searching
+pub mod Records
+pub mod Keeping
+pub mod Walking

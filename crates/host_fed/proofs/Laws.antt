@@ -1,0 +1,48 @@
+-- What a call says decides the status and the lent arrays.
+use Prim.Native.Nat.{ℕ}
+use mathlib.Core.Path.{_≡_, refl, sym}
+use mathlib.Core.List.{List, [], _∷_}
+use Rattle.steps.specs.Told.{ToldAt, found, nothing, refused, number}
+use Rattle.steps.specs.Passed.{Passed}
+use Rattle.klv.specs.Item.{Item}
+use Rattle.fed_states.specs.declared.State.{State}
+use Rattle.fed_states.specs.Close.{Rest}
+use Rattle.fed_bytes.specs.Feed.{Taken}
+use Rattle.host_fed_states.specs.Places.{statePlaces}
+use Rattle.host_fed.specs.Places.{stateAfter, labelAfter, recordPlaces, feedPlaces, closed, closePlaces}
+
+-- Feeding: the status, and the state, the label and the places after it
+
+module _ (t : ToldAt Taken (Passed Item)) (state label out : List ℕ) where
+  abbrev pub Answered : ℕ → List ℕ → List ℕ → List ℕ → Type 0
+  Answered r s l o = (r ≡ number t) × ((s ≡ stateAfter state t) × ((l ≡ labelAfter label t) × (o ≡ feedPlaces out t)))
+
+  pub is-found : (a : Passed Item) (k : Taken) → found a k ≡ t → Answered 0 (statePlaces (k .state)) (a .it .key) (recordPlaces (k .taken) (a .it .klv) (a .passed))
+  unfolding number stateAfter labelAfter feedPlaces
+  is-found a k e = rw (sym e) (refl, (refl, (refl, refl)))
+
+  pub is-nothing : (k : Taken) → nothing k ≡ t → Answered 0 (statePlaces (k .state)) label (0 ∷ k .taken ∷ 0 ∷ 0 ∷ 0 ∷ 0 ∷ 0 ∷ 0 ∷ [])
+  unfolding number stateAfter labelAfter feedPlaces
+  is-nothing k e = rw (sym e) (refl, (refl, (refl, refl)))
+
+  pub is-refused : (n : ℕ) (k : Taken) → refused n k ≡ t → Answered n state label out
+  unfolding number stateAfter labelAfter feedPlaces
+  is-refused n k e = rw (sym e) (refl, (refl, (refl, refl)))
+
+-- Closing
+
+module _ (t : ToldAt State Rest) (state out : List ℕ) where
+  abbrev pub Closed : ℕ → List ℕ → List ℕ → Type 0
+  Closed r s o = (r ≡ number t) × ((s ≡ closed state t) × (o ≡ closePlaces out t))
+
+  pub is-again : (r : Rest) (st : State) → found r st ≡ t → Closed 0 (statePlaces st) (2 ∷ r .from ∷ r .end ∷ [])
+  unfolding number closed closePlaces
+  is-again r st e = rw (sym e) (refl, (refl, refl))
+
+  pub is-clean : (st : State) → nothing st ≡ t → Closed 0 (statePlaces st) (1 ∷ 0 ∷ 0 ∷ [])
+  unfolding number closed closePlaces
+  is-clean st e = rw (sym e) (refl, (refl, refl))
+
+  pub stays-open : (n : ℕ) (st : State) → refused n st ≡ t → Closed n state out
+  unfolding number closed closePlaces
+  stays-open n st e = rw (sym e) (refl, (refl, refl))

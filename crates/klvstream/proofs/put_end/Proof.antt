@@ -1,0 +1,13 @@
+-- `klvstream::put_end` meets its contract: the place behind a text lies in the room.
+use native.Mathlib.Omega.{arith}
+use Rattle.io.proofs.Counting.{counts}
+use Rattle.text.proofs.Sizes.{put-room}
+use borrow.Author.Needs.{needs}
+use Rattle.klvstream.proofs.put_end.Statement.{statement}
+use Rattle.klvstream.proofs.put_end.Tie as tie
+
+returns : tie.Need-returns
+returns c = counts _ _ (put-room (c .before .before .put-end .ensures) (omega arith))
+
+pub put-end-spec : {M : Type 1} → statement M
+put-end-spec = tie.close (tie.spec (λ c κs. search needs) (λ c. search needs) returns)
