@@ -2,7 +2,7 @@
 use Prim.Native.Nat.{ℕ}
 use mathlib.Core.Path.{_≡_, refl, sym}
 use mathlib.Core.List.{List, [], _∷_}
-use Rattle.steps.specs.Told.{Told, found, nothing, refused, number}
+use Rattle.steps.specs.Told.{Told, found, nothing, number}
 use Rattle.klv.specs.Item.{Item}
 use Rattle.host_walk.specs.Places.{klvPlaces, itemPlaces}
 
@@ -14,7 +14,3 @@ module _ (t : Told Item) (out : List ℕ) where
   pub is-nothing : (q : ℕ) → nothing q ≡ t → (0 ≡ number t) × (0 ∷ 0 ∷ 0 ∷ 0 ∷ q ∷ 0 ∷ 0 ∷ [] ≡ itemPlaces t out)
   unfolding number itemPlaces
   is-nothing q e = rw (sym e) (refl, refl)
-
-  pub is-refused : (n q : ℕ) → refused n q ≡ t → (n ≡ number t) × (out ≡ itemPlaces t out)
-  unfolding number itemPlaces
-  is-refused n q e = rw (sym e) (refl, refl)
