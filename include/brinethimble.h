@@ -41,7 +41,8 @@ extern "C" {
 /* More bytes have arrived than the limit; a piece would pass the limit or the known end of a fed walk. The cursor, or the state,
  * stays as it was. */
 #define BRINE_PAST_LIMIT 2u
-/* The payload or text is longer than the lent room. The length that is needed is answered, the room is not written. */
+/* The payload, the text or what is to be written is longer than the lent room. The length that is needed is answered, the room is
+ * not written. */
 #define BRINE_NO_ROOM 3u
 /* An item of a descriptor runs past its set. */
 #define BRINE_ITEM_PAST_SET 4u
@@ -65,6 +66,8 @@ extern "C" {
 #define BRINE_INDEFINITE 13u
 /* brine_strict: the length or the value of the record there is not wholly before the end. */
 #define BRINE_PAST_END 14u
+/* brine_put_*: a field does not fit its bits, the length not its size, the size is not 1 to 9, the pack not 1 to 20. */
+#define BRINE_NO_FIT 15u
 
 /* ---- Found: the first place of an out -------------------------------------------------------------------------------- */
 
@@ -521,6 +524,46 @@ uint32_t brine_random_index(const uint8_t *s, size_t s_len, uint64_t out[BRINE_I
 #define BRINE_PAIR_LEFT 5
 #define BRINE_PAIR_PLACES 6
 uint32_t brine_pair(const uint8_t *s, size_t s_len, size_t at, size_t left, uint64_t out[BRINE_PAIR_PLACES]);
+
+/* ---- Writing: what can be read ---------------------------------------------------------------------------------------- */
+
+/* Each of these writes at a place of lent room, and leaves all else of the room as it was. Reading what was written gives the same
+ * fields. The room may be larger than what is written; a place past it has no room.
+ * out: the place behind what was written, to go on from.
+ * Status: BRINE_DONE; BRINE_NO_FIT, with nothing in out; BRINE_NO_ROOM, with the bytes that it takes from its place on in out. The
+ * first of them that fits, in this order; a refusal leaves the room as it was. */
+
+/* How many bytes the shortest form of a length takes: 1 to 9. */
+size_t brine_shortest(uint64_t n);
+
+/* A length in a form of `size` bytes, 1 to 9, that holds it: brine_shortest says the least. 80h is never written. */
+uint32_t brine_put_length(uint64_t n, size_t size, uint8_t *room, size_t room_len, size_t at, uint64_t out[1]);
+
+/* A KLV: its label, its length in a form of `size` bytes, its value. */
+uint32_t brine_put_klv(const uint8_t label[16], size_t size, const uint8_t *value, size_t value_len, uint8_t *room,
+                       size_t room_len, size_t at, uint64_t out[1]);
+
+/* The KLVs of the run s (those of brine_run), each length in its shortest form, at the start of the room. What follows the last whole
+ * one is not written. The bytes are those of the run exactly where every length of it was the shortest. It has no BRINE_NO_FIT. */
+uint32_t brine_rewrite(const uint8_t *s, size_t s_len, uint8_t *room, size_t room_len, uint64_t out[1]);
+
+/* An item of a local set: its tag and its length in two bytes each, its value. A set is its items one behind the other. */
+uint32_t brine_put_item(uint64_t tag, const uint8_t *value, size_t value_len, uint8_t *room, size_t room_len, size_t at,
+                        uint64_t out[1]);
+
+/* The value of a primer pack: the count of its entries, their size, and for each tag of two bytes in its order the tag and its label,
+ * 16 bytes of `labels`. Labels that are not 16 bytes for each tag are BRINE_NO_FIT. */
+uint32_t brine_put_primer(const uint64_t *tags, size_t tags_len, const uint8_t *labels, size_t labels_len, uint8_t *room,
+                          size_t room_len, size_t at, uint64_t out[1]);
+
+/* One of Canon's packs, 1 to 20, 5 bytes: its id and its raw fields as bits of a number of 32 bits; bits of no field are 0. brine_camera
+ * reads packs behind a byte that counts them. The fields are those of this table in its order, a number for each: by id, each field's
+ * lowest bit and its number of bits. As many as it has must be given.
+ *    1, 3, 5, 10  16+16, 0+16      2  30+2, 28+2, 27+1             4  30+2, 8+16, 0+8         6  29+3, 24+5, 23+1, 8+15, 0+8
+ *    7  31+1, 24+7, 16+8, 12+4     8  30+2, 24+4, 16+1             9, 12, 13, 16, 17, 19  0+32
+ *    11  31+1, 28+3, 16+12, 0+16   14, 15  16+16                   18  31+1, 0+16             20  24+2 */
+uint32_t brine_put_pack(uint64_t id, const uint64_t *fields, size_t fields_len, uint8_t *room, size_t room_len, size_t at,
+                        uint64_t out[1]);
 
 #ifdef __cplusplus
 }

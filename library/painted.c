@@ -13,7 +13,9 @@
 #define PAINT 0xa5
 
 static uint8_t bytes[BYTES], other[BYTES], payload[BYTES], text[6 * BYTES];
-static uint64_t state[BRINE_STATE], records[BRINE_BATCH_PLACES * 4096], out[BRINE_ELEMENT_PLACES], kind[BRINE_VALUES], bits[BRINE_VALUES], frame[4];
+static uint64_t state[BRINE_STATE], records[BRINE_BATCH_PLACES * 4096], out[BRINE_ELEMENT_PLACES], kind[BRINE_VALUES], bits[BRINE_VALUES];
+static uint64_t frame[4], tags[BYTES / 16];
+static const uint64_t fields[5] = {7, 31, 1, 32767, 255};
 static size_t firsts[64], counts[64];
 static int64_t positions[2];
 static volatile uint64_t sink;
@@ -72,6 +74,13 @@ static void do_sequence(void) { sink = brine_sequence(bytes, BYTES, out, positio
 static void do_strict(void) { sink = brine_strict(bytes, BYTES, BYTES, out); }
 static void do_random_index(void) { sink = brine_random_index(bytes, BYTES, out); }
 static void do_pair(void) { sink = brine_pair(bytes, BYTES, 0, SIZE_MAX, out); }
+static void do_shortest(void) { sink = brine_shortest(UINT64_MAX); }
+static void do_put_length(void) { sink = brine_put_length(UINT64_MAX, 9, payload, BYTES, 1, out); }
+static void do_put_klv(void) { sink = brine_put_klv(bytes, 9, bytes, BYTES, text, sizeof text, 1, out); }
+static void do_rewrite(void) { sink = brine_rewrite(bytes, BYTES, payload, BYTES, out); }
+static void do_put_item(void) { sink = brine_put_item(0xffff, bytes, BYTES - 1, text, sizeof text, 1, out); }
+static void do_put_primer(void) { sink = brine_put_primer(tags, BYTES / 16, bytes, BYTES, text, sizeof text, 1, out); }
+static void do_put_pack(void) { sink = brine_put_pack(6, fields, 5, payload, BYTES, 1, out); }
 
 #define CALL(name) {"brine_" #name, do_##name, 0}
 static struct {
@@ -84,6 +93,7 @@ static struct {
     CALL(outline), CALL(header), CALL(primer), CALL(arri_block), CALL(payload), CALL(line), CALL(descriptor), CALL(sony_step),
     CALL(arri_step), CALL(canon_step), CALL(of_dynamic), CALL(of_alexa35), CALL(arri_values), CALL(package), CALL(camera),
     CALL(sequence), CALL(strict), CALL(random_index), CALL(pair),
+    CALL(shortest), CALL(put_length), CALL(put_klv), CALL(rewrite), CALL(put_item), CALL(put_primer), CALL(put_pack),
 };
 enum { CALLS = sizeof calls / sizeof *calls };
 

@@ -55,7 +55,8 @@ impl Values {
 
 include!("calls.rs");
 
-/// What a status says; `told` is the number that comes with some: what a payload or text without room needs, where records break off.
+/// What a status says; `told` is the number that comes with some: what a payload, a text or a writer without room needs, where records
+/// break off.
 fn answered<T>(status: u32, told: u64, answer: T) -> Result<T, Refusal> {
     let place = told as usize;
     match status {
@@ -74,6 +75,7 @@ fn answered<T>(status: u32, told: u64, answer: T) -> Result<T, Refusal> {
         12 => Err(Refusal::NoLength { place }),
         13 => Err(Refusal::Indefinite { place }),
         14 => Err(Refusal::PastEnd { place }),
+        15 => Err(Refusal::NoFit),
         _ => unreachable!("{status} is no status of the library"),
     }
 }
@@ -318,4 +320,52 @@ pub fn pair(s: &[u8], at: usize, left: usize) -> [u64; 6] {
     let mut out = [0; 6];
     unsafe { brine_pair(s.as_ptr(), s.len(), at, left, &mut out) };
     out
+}
+
+/// `brine_shortest`.
+pub fn shortest(n: u64) -> usize {
+    unsafe { brine_shortest(n) }
+}
+
+/// `brine_put_length`: the place behind it.
+pub fn put_length(n: u64, size: usize, room: &mut [u8], at: usize) -> Result<usize, Refusal> {
+    let mut out = [0];
+    let status = unsafe { brine_put_length(n, size, room.as_mut_ptr(), room.len(), at, &mut out) };
+    answered(status, out[0], out[0] as usize)
+}
+
+/// `brine_put_klv`: the place behind it.
+pub fn put_klv(label: &[u8; 16], size: usize, value: &[u8], room: &mut [u8], at: usize) -> Result<usize, Refusal> {
+    let mut out = [0];
+    let status = unsafe { brine_put_klv(label, size, value.as_ptr(), value.len(), room.as_mut_ptr(), room.len(), at, &mut out) };
+    answered(status, out[0], out[0] as usize)
+}
+
+/// `brine_rewrite`: the place behind it.
+pub fn rewrite(s: &[u8], room: &mut [u8]) -> Result<usize, Refusal> {
+    let mut out = [0];
+    let status = unsafe { brine_rewrite(s.as_ptr(), s.len(), room.as_mut_ptr(), room.len(), &mut out) };
+    answered(status, out[0], out[0] as usize)
+}
+
+/// `brine_put_item`: the place behind it.
+pub fn put_item(tag: u64, value: &[u8], room: &mut [u8], at: usize) -> Result<usize, Refusal> {
+    let mut out = [0];
+    let status = unsafe { brine_put_item(tag, value.as_ptr(), value.len(), room.as_mut_ptr(), room.len(), at, &mut out) };
+    answered(status, out[0], out[0] as usize)
+}
+
+/// `brine_put_primer`: the place behind it.
+pub fn put_primer(tags: &[u64], labels: &[u8], room: &mut [u8], at: usize) -> Result<usize, Refusal> {
+    let mut out = [0];
+    let (tags, tags_len, labels, labels_len) = (tags.as_ptr(), tags.len(), labels.as_ptr(), labels.len());
+    let status = unsafe { brine_put_primer(tags, tags_len, labels, labels_len, room.as_mut_ptr(), room.len(), at, &mut out) };
+    answered(status, out[0], out[0] as usize)
+}
+
+/// `brine_put_pack`: the place behind it.
+pub fn put_pack(id: u64, fields: &[u64], room: &mut [u8], at: usize) -> Result<usize, Refusal> {
+    let mut out = [0];
+    let status = unsafe { brine_put_pack(id, fields.as_ptr(), fields.len(), room.as_mut_ptr(), room.len(), at, &mut out) };
+    answered(status, out[0], out[0] as usize)
 }

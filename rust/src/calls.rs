@@ -48,4 +48,20 @@ unsafe extern "C" {
     fn brine_strict(s: *const u8, s_len: usize, end: usize, out: &mut [u64; 1]) -> u32;
     fn brine_random_index(s: *const u8, s_len: usize, out: &mut [u64; 2]) -> u32;
     fn brine_pair(s: *const u8, s_len: usize, at: usize, left: usize, out: &mut [u64; 6]) -> u32;
+    fn brine_shortest(n: u64) -> usize;
+    fn brine_put_length(n: u64, size: usize, room: *mut u8, room_len: usize, at: usize, out: &mut [u64; 1]) -> u32;
+    fn brine_put_klv(
+        label: &[u8; 16], size: usize, value: *const u8, value_len: usize, room: *mut u8, room_len: usize, at: usize, out: &mut [u64; 1],
+    ) -> u32;
+    fn brine_rewrite(s: *const u8, s_len: usize, room: *mut u8, room_len: usize, out: &mut [u64; 1]) -> u32;
+    fn brine_put_item(
+        tag: u64, value: *const u8, value_len: usize, room: *mut u8, room_len: usize, at: usize, out: &mut [u64; 1],
+    ) -> u32;
+    fn brine_put_primer(
+        tags: *const u64, tags_len: usize, labels: *const u8, labels_len: usize, room: *mut u8, room_len: usize, at: usize,
+        out: &mut [u64; 1],
+    ) -> u32;
+    fn brine_put_pack(
+        id: u64, fields: *const u64, fields_len: usize, room: *mut u8, room_len: usize, at: usize, out: &mut [u64; 1],
+    ) -> u32;
 }

@@ -31,6 +31,7 @@
 //! | the values of ARRI's frames | [`values`] |
 //! | Canon's camera metadata and sequence info | [`canon`] |
 //! | whole files: a strict gate, the random index pack | [`checks`] |
+//! | writing lengths, KLVs, sets, primers, Canon's packs | [`write`] |
 #![forbid(unsafe_op_in_unsafe_fn)]
 #![deny(missing_docs, unsafe_code)]
 
@@ -47,6 +48,7 @@ pub mod record;
 pub mod tables;
 pub mod values;
 pub mod walk;
+pub mod write;
 
 pub use canon::{Camera, Member, Packages, Sequence, Value, camera_metadata, package_metadata, stream_file_sequence_info};
 pub use checks::{Pair, RandomIndex, strict};

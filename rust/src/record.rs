@@ -27,7 +27,7 @@ pub enum Refusal {
     EndPastBuffer,
     /// 2: more bytes have arrived than the limit, or a piece would pass the limit or the known end.
     PastLimit,
-    /// 3: the payload or text is longer than the lent room.
+    /// 3: the payload, the text or what is to be written is longer than the lent room.
     NoRoom {
         /// Its length.
         needed: usize,
@@ -69,6 +69,8 @@ pub enum Refusal {
         /// Where records break off.
         place: usize,
     },
+    /// 15: a writer: a field does not fit its bits, the length not its size, the size is not 1 to 9, the pack not 1 to 20.
+    NoFit,
 }
 
 impl Refusal {
@@ -93,6 +95,7 @@ impl Refusal {
             Refusal::NoLength { .. } => 12,
             Refusal::Indefinite { .. } => 13,
             Refusal::PastEnd { .. } => 14,
+            Refusal::NoFit => 15,
         }
     }
 
@@ -133,6 +136,7 @@ impl fmt::Display for Refusal {
             Refusal::NoLength { place } => write!(f, "the record at {place} has no length"),
             Refusal::Indefinite { place } => write!(f, "the length of the record at {place} is 80h"),
             Refusal::PastEnd { place } => write!(f, "the record at {place} is not wholly before the end"),
+            Refusal::NoFit => write!(f, "what is to be written has no such form"),
         }
     }
 }
@@ -339,9 +343,10 @@ mod tests {
             Refusal::NoLength { place: 3 },
             Refusal::Indefinite { place: 4 },
             Refusal::PastEnd { place: 5 },
+            Refusal::NoFit,
         ];
-        assert_eq!(all.map(Refusal::number), [1, 2, 3, 4, 6, 7, 8, 9, 10, 11, 12, 13, 14]);
-        assert_eq!(all[8..].iter().map(|refusal| refusal.place()).collect::<Vec<_>>(), [1, 2, 3, 4, 5].map(Some));
+        assert_eq!(all.map(Refusal::number), [1, 2, 3, 4, 6, 7, 8, 9, 10, 11, 12, 13, 14, 15]);
+        assert_eq!(all[8..13].iter().map(|refusal| refusal.place()).collect::<Vec<_>>(), [1, 2, 3, 4, 5].map(Some));
         assert_eq!(all[2].to_string(), "7 bytes of room are needed");
     }
 }

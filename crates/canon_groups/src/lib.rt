@@ -1,7 +1,7 @@
 // The fields of Canon's Private Camera Metadata, in six groups, and what a pack makes of each: docs/RULES.md, "Frame
 // values". A pack is the fields' that have its id, and pack 0 is none's; a value of nothing erases nothing.
 ghost use mathlib.Core.Path.{_≡_};
-ghost use Rattle.canon_groups.specs.Groups.{after, lensAfter, modesAfter, shutterAfter, balanceAfter, gainAfter, rangesAfter, noLens, noModes, noShutter, noBalance, noGain, noRanges};
+ghost use Rattle.canon_groups.specs.Groups.{after, rawsOf, lensAfter, modesAfter, shutterAfter, balanceAfter, gainAfter, rangesAfter, noLens, noModes, noShutter, noBalance, noGain, noRanges};
 use canon_values::Value;
 use canon_values::aperture;
 use canon_values::balance_mode;
@@ -92,14 +92,14 @@ pub struct Ranges {
 
 // A field after a pack, which is the field's where it has the id.
 fn after(p: Pack, id: u8, old: Value, new: Value) -> Value
-    ensures { λ r. ⌜ r ≡ after p id old new ⌝ }
+    ensures { λ r. ⌜ r ≡ after (p .id) id old new ⌝ }
 {
     if p.id == id { put(old, new) } else { old }
 }
 
 // The lens after a pack.
 pub fn lens_after(p: Pack, g: Lens) -> Lens
-    ensures { λ r. ⌜ r ≡ lensAfter p g ⌝ }
+    ensures { λ r. ⌜ r ≡ lensAfter (p .id) (rawsOf p) g ⌝ }
 {
     let focal_length = g.focal_length;
     let electric_zoom = g.electric_zoom;
@@ -123,7 +123,7 @@ pub fn lens_after(p: Pack, g: Lens) -> Lens
 
 // The modes after a pack.
 pub fn modes_after(p: Pack, g: Modes) -> Modes
-    ensures { λ r. ⌜ r ≡ modesAfter p g ⌝ }
+    ensures { λ r. ⌜ r ≡ modesAfter (p .id) (rawsOf p) g ⌝ }
 {
     let focus = g.focus;
     let stabilizer = g.stabilizer;
@@ -143,7 +143,7 @@ pub fn modes_after(p: Pack, g: Modes) -> Modes
 
 // The shutter after a pack.
 pub fn shutter_after(p: Pack, g: Shutter) -> Shutter
-    ensures { λ r. ⌜ r ≡ shutterAfter p g ⌝ }
+    ensures { λ r. ⌜ r ≡ shutterAfter (p .id) (rawsOf p) g ⌝ }
 {
     let speed = g.speed;
     let mode = g.mode;
@@ -157,7 +157,7 @@ pub fn shutter_after(p: Pack, g: Shutter) -> Shutter
 
 // The white balance after a pack.
 pub fn balance_after(p: Pack, g: Balance) -> Balance
-    ensures { λ r. ⌜ r ≡ balanceAfter p g ⌝ }
+    ensures { λ r. ⌜ r ≡ balanceAfter (p .id) (rawsOf p) g ⌝ }
 {
     let mode = g.mode;
     let preset = g.preset;
@@ -175,7 +175,7 @@ pub fn balance_after(p: Pack, g: Balance) -> Balance
 
 // The gain after a pack.
 pub fn gain_after(p: Pack, g: Gain) -> Gain
-    ensures { λ r. ⌜ r ≡ gainAfter p g ⌝ }
+    ensures { λ r. ⌜ r ≡ gainAfter (p .id) (rawsOf p) g ⌝ }
 {
     let mode = g.mode;
     let level = g.level;
@@ -196,7 +196,7 @@ pub fn gain_after(p: Pack, g: Gain) -> Gain
 
 // The ranges after a pack.
 pub fn ranges_after(p: Pack, g: Ranges) -> Ranges
-    ensures { λ r. ⌜ r ≡ rangesAfter p g ⌝ }
+    ensures { λ r. ⌜ r ≡ rangesAfter (p .id) (rawsOf p) g ⌝ }
 {
     let camera = g.camera;
     let base_gamma = g.base_gamma;

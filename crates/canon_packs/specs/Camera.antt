@@ -4,10 +4,39 @@ use mathlib.Core.List.{List}
 use lib.ListN.{length, getD}
 use Rattle.parts.specs.Number.{twoAt, fourAt}
 use Rattle.canon_groups.specs.declared.Pack.{Pack}
+use Rattle.canon_groups.specs.Fields.{fieldsOf, bitsOf}
 use Rattle.canon_groups.specs.Groups.{lensAfter, modesAfter, shutterAfter, balanceAfter, gainAfter, rangesAfter, noLens, noModes, noShutter, noBalance, noGain, noRanges}
 use Rattle.canon_packs.specs.declared.Camera.{Camera}
 
--- a pack of 5: its id, its four bytes, and the numbers of its first, middle and last two and of all
+-- the camera after a pack of that id with these raw fields
+unfoldable pub cameraAfter : ℕ → List ℕ → Camera → Camera
+cameraAfter id fs c = record {
+  lens = lensAfter id fs (c .lens);
+  modes = modesAfter id fs (c .modes);
+  shutter = shutterAfter id fs (c .shutter);
+  balance = balanceAfter id fs (c .balance);
+  gain = gainAfter id fs (c .gain);
+  ranges = rangesAfter id fs (c .ranges);
+}
+
+-- before the first pack
+abbrev pub unknown : Camera
+unknown = record { lens = noLens; modes = noModes; shutter = noShutter; balance = noBalance; gain = noGain; ranges = noRanges }
+
+-- the raw fields of the pack of 5 at a place: its first byte is its id, and they are bits of the number of the other four
+unfoldable pub rawsAt : List ℕ → ℕ → List ℕ
+rawsAt s at = bitsOf (fieldsOf (getD s at 0)) (fourAt s (at + 1))
+
+-- after the first n packs, which follow the count
+unfoldable pub afterPacks : List ℕ → ℕ → Camera
+afterPacks s zero = unknown
+afterPacks s (suc n) = cameraAfter (getD s (1 + 5 * n) 0) (rawsAt s (1 + 5 * n)) (afterPacks s n)
+
+-- its first byte is a count; packs of 5 follow, at most that many, a partial one dropped
+unfoldable pub cameraOf : List ℕ → Camera
+cameraOf s = afterPacks s (min (getD s 0 0) ((length s - 1) / 5))
+
+-- a pack as the code reads it: its id, its four bytes, and the numbers of its first, middle and last two and of all
 unfoldable pub packAt : List ℕ → ℕ → Pack
 packAt s at = record {
   id = getD s at 0;
@@ -20,27 +49,3 @@ packAt s at = record {
   last = twoAt s (at + 3);
   whole = fourAt s (at + 1);
 }
-
--- the camera after a pack
-unfoldable pub cameraAfter : Pack → Camera → Camera
-cameraAfter p c = record {
-  lens = lensAfter p (c .lens);
-  modes = modesAfter p (c .modes);
-  shutter = shutterAfter p (c .shutter);
-  balance = balanceAfter p (c .balance);
-  gain = gainAfter p (c .gain);
-  ranges = rangesAfter p (c .ranges);
-}
-
--- before the first pack
-abbrev pub unknown : Camera
-unknown = record { lens = noLens; modes = noModes; shutter = noShutter; balance = noBalance; gain = noGain; ranges = noRanges }
-
--- after the first n packs of 5, which follow the count
-unfoldable pub afterPacks : List ℕ → ℕ → Camera
-afterPacks s zero = unknown
-afterPacks s (suc n) = cameraAfter (packAt s (1 + 5 * n)) (afterPacks s n)
-
--- its first byte is a count; packs of 5 follow, at most that many, a partial one dropped
-unfoldable pub cameraOf : List ℕ → Camera
-cameraOf s = afterPacks s (min (getD s 0 0) ((length s - 1) / 5))

@@ -3,6 +3,7 @@
 ghost use mathlib.Core.Path.{_≡_};
 ghost use Prim.Native.Nat.{_+_, _≤_};
 ghost use lib.ListN.{length};
+ghost use Rattle.canon_groups.specs.Groups.{rawsOf};
 ghost use Rattle.canon_packs.specs.Camera.{packAt, cameraAfter, unknown, cameraOf};
 use canon_groups::Balance;
 use canon_groups::Gain;
@@ -39,7 +40,7 @@ pub struct Camera {
 
 // The camera after a pack.
 fn camera_after(p: Pack, c: Camera) -> Camera
-    ensures { λ r. ⌜ r ≡ cameraAfter p c ⌝ }
+    ensures { λ r. ⌜ r ≡ cameraAfter (p .id) (rawsOf p) c ⌝ }
 {
     Camera {
         lens: lens_after(p, c.lens),

@@ -6,3 +6,4 @@ pub mod StrictGate
 pub mod RandomIndex
 pub mod Outline
 pub mod Fed
+pub mod Writers

@@ -1,10 +1,14 @@
-//! L8: write what we can read. Bytes of lengths, KLVs, local items, primers, Canon packs and whole runs.
+//! L8: write what we can read. Bytes of lengths, KLVs, local items, primers, Canon packs and whole runs, each read back by the published
+//! readers before it is answered.
 
 use std::fmt::Write;
 
-use super::forms::holds;
+use super::forms::{field, holds, is_shortest};
 use super::put_written;
+use crate::arri::mxf::reach;
+use crate::canon::mxf_packs::reach as canon;
 use crate::line::{Case, Field, Word, digits};
+use crate::mxf::{klvs, read_ber};
 use crate::words::walk::run_records;
 
 pub const WORDS: &[Word] = &[
@@ -25,6 +29,7 @@ pub fn put(out: &mut String, case: &Case) {
     match written(case) {
         None => out.push('?'),
         Some(Err(NoFit)) => out.push_str("refused 15"),
+        Some(Ok(bytes)) if !reads_back(case, &bytes) => out.push_str("read otherwise than written"),
         Some(Ok(bytes)) => put_written(out, &bytes, *case.numbers.last().expect("a room")),
     }
 }
@@ -134,17 +139,49 @@ fn rewritten(bytes: &[u8]) -> Result<Vec<u8>, NoFit> {
     Ok(run_records(bytes).into_iter().map(klv).collect::<Result<Vec<_>, _>>()?.concat())
 }
 
+/// Whether the published readers read the bytes that a word wrote as what was given: of a pack, as a pack with the same fields and
+/// all other bits set, which are 0 in it.
+fn reads_back(case: &Case, bytes: &[u8]) -> bool {
+    let mut rest = bytes;
+    match case.word {
+        "putlength" => read_ber(&mut rest).unwrap() == Some(case.numbers[0]) && rest.is_empty(),
+        "putklv" => klvs(bytes).map(|(label, value)| (&label[..], value)).eq([(&case.other[..], &case.bytes[..])]),
+        "putitem" => reach::items(bytes, false).eq([(case.numbers[0] as u16, &case.bytes[..])]),
+        "putprimer" => {
+            let last = |tag: &u16| case.bytes.chunks(18).rfind(|entry| entry[..2] == tag.to_be_bytes()).map(|entry| entry[2..].to_vec());
+            let read = reach::primer(bytes);
+            case.bytes.chunks(18).all(|entry| read.contains_key(&u16::from_be_bytes([entry[0], entry[1]])))
+                && read.iter().all(|(tag, label)| last(tag) == Some(label.to_vec()))
+        }
+        "rewrite" => {
+            let of = |run: &[u8]| klvs(run).map(|(label, value)| (*label, value.to_vec())).collect::<Vec<_>>();
+            let records = run_records(&case.bytes);
+            let shortest = records.iter().all(|record| is_shortest(field(&case.bytes, record), record.length));
+            let end = records.last().map_or(0, |last| last.end() as usize);
+            of(bytes) == of(&case.bytes) && (bytes == &case.bytes[..end]) == shortest
+        }
+        _ => {
+            let fields = PACKS[case.numbers[0] as usize - 1].iter();
+            let others = !fields.map(|(shift, bits)| ((1u64 << bits) - 1) << shift).sum::<u64>() as u32;
+            let number = u32::from_be_bytes(bytes[1..].try_into().expect("four bytes behind the id"));
+            let all = [&bytes[..1], &(number | others).to_be_bytes()].concat();
+            number & others == 0 && read_pack(bytes) == read_pack(&all)
+        }
+    }
+}
+
+/// What the published reader answers for a pack.
+fn read_pack(pack: &[u8]) -> serde_json::Value {
+    canon::packs(&[&[1], pack].concat())
+}
+
 #[cfg(test)]
 mod tests {
     use super::*;
-    use crate::arri::mxf::reach;
-    use crate::asked::forms::{field, is_shortest};
     use crate::asked::tests::shows;
-    use crate::canon::mxf_packs::reach as canon;
     use crate::cases;
     use crate::cases::random::Random;
     use crate::line::parse;
-    use crate::mxf::{klvs, read_ber};
 
     #[test]
     fn lengths() {
@@ -207,34 +244,9 @@ mod tests {
         }
     }
 
-    /// What 02 says of the bytes that a word writes, by the published readers.
-    fn reads_back(case: &Case, bytes: &[u8]) -> bool {
-        let mut rest = bytes;
-        match case.word {
-            "putlength" => read_ber(&mut rest).unwrap() == Some(case.numbers[0]) && rest.is_empty(),
-            "putklv" => klvs(bytes).map(|(label, value)| (&label[..], value)).eq([(&case.other[..], &case.bytes[..])]),
-            "putitem" => reach::items(bytes, false).eq([(case.numbers[0] as u16, &case.bytes[..])]),
-            "putprimer" => {
-                let last =
-                    |tag: &u16| case.bytes.chunks(18).rfind(|entry| entry[..2] == tag.to_be_bytes()).map(|entry| entry[2..].to_vec());
-                let read = reach::primer(bytes);
-                case.bytes.chunks(18).all(|entry| read.contains_key(&u16::from_be_bytes([entry[0], entry[1]])))
-                    && read.iter().all(|(tag, label)| last(tag) == Some(label.to_vec()))
-            }
-            "rewrite" => {
-                let of = |run: &[u8]| klvs(run).map(|(label, value)| (*label, value.to_vec())).collect::<Vec<_>>();
-                let records = run_records(&case.bytes);
-                let shortest = records.iter().all(|record| is_shortest(field(&case.bytes, record), record.length));
-                let end = records.last().map_or(0, |last| last.end() as usize);
-                of(bytes) == of(&case.bytes) && (bytes == &case.bytes[..end]) == shortest
-            }
-            _ => true,
-        }
-    }
-
     #[test]
     fn the_published_readers_read_what_was_written() {
-        for word in ["putlength", "putklv", "putitem", "putprimer", "rewrite"] {
+        for word in ["putlength", "putklv", "putitem", "putprimer", "putpack", "rewrite"] {
             let mut good = 0;
             for index in 0..3000 {
                 let case = parse(&cases::case(word, 9, index)).unwrap();
@@ -254,8 +266,7 @@ mod tests {
             let (id, whole) = (1 + turn % 20, random.draw() as u32);
             let fields: Vec<u64> = PACKS[id - 1].iter().map(|(shift, bits)| (whole as u64 >> shift) & ((1 << bits) - 1)).collect();
             let written = pack(id as u64, &fields).unwrap();
-            let read = |pack: &[u8]| canon::packs(&[&[1], pack].concat());
-            assert_eq!(read(&written), read(&[&[id as u8][..], &whole.to_be_bytes()].concat()), "{id} {whole:08x}");
+            assert_eq!(read_pack(&written), read_pack(&[&[id as u8][..], &whole.to_be_bytes()].concat()), "{id} {whole:08x}");
         }
     }
 }

@@ -4,17 +4,17 @@ use brinethimble::{Ending, FedRecord, Feeding, Refusal};
 
 use crate::text::Text;
 
-/// The pieces that a cut's digits make of bytes: as long as they say, in turn and again from the first; all 0 is one piece.
-fn pieces<'a>(cut: &[u8], bytes: &'a [u8]) -> Vec<&'a [u8]> {
-    if cut.iter().all(|digit| *digit == b'0') {
+/// The pieces that a cut makes of bytes: as long as its numbers say, in turn and again from the first; all 0 is one piece.
+fn pieces<'a>(cut: &[u64], bytes: &'a [u8]) -> Vec<&'a [u8]> {
+    if cut.iter().all(|size| *size == 0) {
         return vec![bytes];
     }
     let (mut pieces, mut rest) = (Vec::new(), bytes);
-    for digit in cut.iter().cycle() {
+    for size in cut.iter().cycle() {
         if rest.is_empty() {
             break;
         }
-        let (piece, left) = rest.split_at(rest.len().min(usize::from(digit - b'0')));
+        let (piece, left) = rest.split_at(rest.len().min(*size as usize));
         pieces.push(piece);
         rest = left;
     }
@@ -39,7 +39,7 @@ fn filled(walk: &mut Feeding, piece: &[u8]) -> Result<Vec<FedRecord>, Refusal> {
 }
 
 /// `fed`, `fedend`: the records, and what closing says; a refused piece ends it. Records one by one and many a call must be the same.
-pub fn fed(out: &mut Text, mut walk: Feeding, cut: &[u8], bytes: &[u8]) {
+pub fn fed(out: &mut Text, mut walk: Feeding, cut: &[u64], bytes: &[u8]) {
     let mut many = walk.clone();
     for piece in pieces(cut, bytes) {
         let list = walk.piece(piece).map(Iterator::collect::<Vec<_>>);

@@ -3,7 +3,7 @@
 /// The longest line that is a case, in characters.
 const LONGEST: usize = 65_535;
 
-/// What stands between a word and its bytes.
+/// What stands behind a word.
 #[derive(Clone, Copy, PartialEq, Eq)]
 pub enum Field {
     /// A number, or `n` for the number of bytes.
@@ -12,79 +12,129 @@ pub enum Field {
     Number,
     /// 0 or 1.
     Coding,
-    /// Digits: how long the pieces are that the bytes are fed in.
-    Cut,
+    /// A label's 16 bytes.
+    Label,
+    /// Numbers with commas between them, `-` for none.
+    List,
+    /// Digits, each a number.
+    Digits,
+    /// The bytes.
+    Bytes,
 }
 
 /// Every word with its fields.
-pub const WORDS: [(&[u8], &[Field]); 35] = [
-    (b"ber", &[]),
-    (b"walk", &[Field::End]),
-    (b"step", &[Field::End, Field::Number]),
-    (b"klvs", &[]),
-    (b"arrive", &[Field::Number]),
-    (b"tally", &[]),
-    (b"header", &[]),
-    (b"primer", &[]),
-    (b"items", &[Field::Coding]),
-    (b"dynamic", &[]),
-    (b"ofdynamic", &[]),
-    (b"alexa", &[]),
-    (b"arri", &[Field::End]),
-    (b"anc", &[]),
-    (b"set", &[]),
-    (b"sony", &[Field::End]),
-    (b"packs", &[]),
-    (b"package", &[]),
-    (b"sequence", &[]),
-    (b"canon", &[Field::End]),
-    (b"form", &[]),
-    (b"forms", &[Field::End]),
-    (b"formrun", &[]),
-    (b"formitems", &[Field::Number, Field::Coding]),
-    (b"passed", &[Field::End]),
-    (b"passarrive", &[Field::Number]),
-    (b"passfrom", &[Field::End, Field::Number, Field::Number]),
-    (b"passsony", &[Field::End]),
-    (b"passarri", &[Field::End]),
-    (b"passcanon", &[Field::End]),
-    (b"strict", &[Field::End]),
-    (b"rip", &[]),
-    (b"outline", &[Field::End, Field::Number, Field::Number]),
-    (b"fed", &[Field::Number, Field::Cut]),
-    (b"fedend", &[Field::End, Field::Cut]),
+pub const WORDS: [(&[u8], &[Field]); 42] = [
+    (b"ber", &[Field::Bytes]),
+    (b"walk", &[Field::End, Field::Bytes]),
+    (b"step", &[Field::End, Field::Number, Field::Bytes]),
+    (b"klvs", &[Field::Bytes]),
+    (b"arrive", &[Field::Number, Field::Bytes]),
+    (b"tally", &[Field::Bytes]),
+    (b"header", &[Field::Bytes]),
+    (b"primer", &[Field::Bytes]),
+    (b"items", &[Field::Coding, Field::Bytes]),
+    (b"dynamic", &[Field::Bytes]),
+    (b"ofdynamic", &[Field::Bytes]),
+    (b"alexa", &[Field::Bytes]),
+    (b"arri", &[Field::End, Field::Bytes]),
+    (b"anc", &[Field::Bytes]),
+    (b"set", &[Field::Bytes]),
+    (b"sony", &[Field::End, Field::Bytes]),
+    (b"packs", &[Field::Bytes]),
+    (b"package", &[Field::Bytes]),
+    (b"sequence", &[Field::Bytes]),
+    (b"canon", &[Field::End, Field::Bytes]),
+    (b"form", &[Field::Bytes]),
+    (b"forms", &[Field::End, Field::Bytes]),
+    (b"formrun", &[Field::Bytes]),
+    (b"formitems", &[Field::Number, Field::Coding, Field::Bytes]),
+    (b"passed", &[Field::End, Field::Bytes]),
+    (b"passarrive", &[Field::Number, Field::Bytes]),
+    (b"passfrom", &[Field::End, Field::Number, Field::Number, Field::Bytes]),
+    (b"passsony", &[Field::End, Field::Bytes]),
+    (b"passarri", &[Field::End, Field::Bytes]),
+    (b"passcanon", &[Field::End, Field::Bytes]),
+    (b"strict", &[Field::End, Field::Bytes]),
+    (b"rip", &[Field::Bytes]),
+    (b"outline", &[Field::End, Field::Number, Field::Number, Field::Bytes]),
+    (b"shortest", &[Field::Number]),
+    (b"putlength", &[Field::Number, Field::Number, Field::Number]),
+    (b"putklv", &[Field::Number, Field::Number, Field::Label, Field::Bytes]),
+    (b"putitem", &[Field::Number, Field::Number, Field::Bytes]),
+    (b"putprimer", &[Field::Number, Field::Bytes]),
+    (b"putpack", &[Field::Number, Field::Number, Field::List]),
+    (b"rewrite", &[Field::Number, Field::Bytes]),
+    (b"fed", &[Field::Number, Field::Digits, Field::Bytes]),
+    (b"fedend", &[Field::End, Field::Digits, Field::Bytes]),
 ];
 
-/// A case. Numbers that its word has no field for are 0, and a cut is empty.
+/// The most fields that a word has.
+const MOST: usize = 4;
+
+/// A case. Numbers that its word has no field for are 0; a label, a list and bytes are empty.
 pub struct Case<'a> {
     pub word: &'static [u8],
     pub numbers: [usize; 3],
-    pub cut: &'a [u8],
+    pub label: [u8; 16],
+    pub list: Vec<u64>,
     pub bytes: &'a [u8],
 }
 
 /// The case that a line is, if it is one; `room` holds its bytes.
-pub fn parse<'a>(line: &'a [u8], room: &'a mut Vec<u8>) -> Option<Case<'a>> {
+pub fn parse<'a>(line: &[u8], room: &'a mut Vec<u8>) -> Option<Case<'a>> {
     if line.len() > LONGEST {
         return None;
     }
     let mut parts = line.split(|byte| *byte == b' ');
     let name = parts.next()?;
     let (word, fields) = WORDS.iter().find(|(word, _)| *word == name)?;
-    let mut texts = [&[][..]; 3];
+    let mut texts = [&[][..]; MOST];
     for text in &mut texts[..fields.len()] {
         *text = parts.next()?;
     }
-    read_bytes(parts.next()?, room)?;
-    let (mut numbers, mut cut) = ([0; 3], &[][..]);
-    for (number, (field, text)) in numbers.iter_mut().zip(fields.iter().zip(texts)) {
+    if parts.next().is_some() {
+        return None;
+    }
+    let (mut label, mut list) = ([0; 16], Vec::new());
+    room.clear();
+    for (field, text) in fields.iter().zip(texts) {
         match field {
-            Field::Cut if text.is_empty() || !text.iter().all(u8::is_ascii_digit) => return None,
-            Field::Cut => cut = text,
-            _ => *number = number_of(*field, text, room.len())?,
+            Field::Bytes => read_bytes(text, room)?,
+            Field::Label => label = label_of(text)?,
+            Field::List => list = list_of(text)?,
+            Field::Digits => list = digits_of(text)?,
+            _ => {}
         }
     }
-    parts.next().is_none().then_some(Case { word, numbers, cut, bytes: room })
+    let mut numbers = [0; 3];
+    let texts = fields.iter().zip(texts).filter(|(field, _)| matches!(field, Field::End | Field::Number | Field::Coding));
+    for (number, (field, text)) in numbers.iter_mut().zip(texts) {
+        *number = number_of(*field, text, room.len())?;
+    }
+    Some(Case { word, numbers, label, list, bytes: room })
+}
+
+/// The label that a field of hex stands for.
+fn label_of(text: &[u8]) -> Option<[u8; 16]> {
+    let mut bytes = Vec::new();
+    read_bytes(text, &mut bytes)?;
+    bytes.try_into().ok()
+}
+
+/// The numbers that a list stands for.
+fn list_of(text: &[u8]) -> Option<Vec<u64>> {
+    if text == b"-" {
+        return Some(Vec::new());
+    }
+    text.split(|byte| *byte == b',').map(|text| number_of(Field::Number, text, 0).map(|number| number as u64)).collect()
+}
+
+/// The numbers that digits stand for, one at least.
+fn digits_of(text: &[u8]) -> Option<Vec<u64>> {
+    if text.is_empty() || !text.iter().all(u8::is_ascii_digit) {
+        return None;
+    }
+    Some(text.iter().map(|digit| u64::from(digit - b'0')).collect())
 }
 
 /// The number that a field's text stands for in a case of `count` bytes.
@@ -99,9 +149,8 @@ fn number_of(field: Field, text: &[u8], count: usize) -> Option<usize> {
     (field != Field::Coding || number < 2).then_some(number)
 }
 
-/// Reads a field of hex into `room`.
+/// Reads a field of hex into `room`, which is empty.
 fn read_bytes(text: &[u8], room: &mut Vec<u8>) -> Option<()> {
-    room.clear();
     if text == b"-" {
         return Some(());
     }

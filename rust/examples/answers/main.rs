@@ -12,6 +12,7 @@ mod passed;
 mod sony;
 mod text;
 mod walk;
+mod written;
 
 use std::io::{BufRead, BufReader, BufWriter, Result, Write, stdin, stdout};
 
@@ -88,8 +89,15 @@ fn reply(out: &mut Text, case: &Case) -> std::result::Result<(), Refusal> {
         b"strict" => checks::strict(out, s, a)?,
         b"rip" => checks::random_index(out, s)?,
         b"outline" => outline::outline(out, s, a, b, c)?,
-        b"fed" => fed::fed(out, Feeding::limit(a), case.cut, s),
-        b"fedend" => fed::fed(out, Feeding::end(a), case.cut, s),
+        b"shortest" => written::shortest(out, a),
+        b"putlength" => written::length(out, a, b, c)?,
+        b"putklv" => written::klv(out, &case.label, a, s, b)?,
+        b"putitem" => written::item(out, a, s, b)?,
+        b"putprimer" => written::primer(out, s, a)?,
+        b"putpack" => written::pack(out, a, &case.list, b)?,
+        b"rewrite" => written::rewrite(out, s, a)?,
+        b"fed" => fed::fed(out, Feeding::limit(a), &case.list, s),
+        b"fedend" => fed::fed(out, Feeding::end(a), &case.list, s),
         _ => unreachable!("the words of line::WORDS are all here"),
     }
     Ok(())
@@ -169,14 +177,46 @@ mod tests {
     }
 
     #[test]
+    fn writers_answer_their_bytes() {
+        let (first, second) = ("060e2b340101010d0e15000100010000", "060e2b340101010e0e15000100010000");
+        for (case, right) in [
+            ("shortest 128", "2"),
+            ("putlength 5 3 3", "820005"),
+            ("putlength 5 3 2", "refused 3 3"),
+            ("putlength 128 1 0", "refused 15"),
+            ("putitem 15370 18446744073709551615 aabb", "3c0a0002aabb"),
+            ("putitem 65536 0 -", "refused 15"),
+            ("putprimer 7 -", "refused 3 8"),
+            ("putprimer 99 00", "?"),
+            ("putpack 6 5 3,31,1,5600,128", "067f95e080"),
+            ("putpack 2 4 1,3,1", "refused 3 5"),
+            ("putpack 2 5 1,3", "refused 15"),
+            ("putpack 2 5 1,,1", "?"),
+            ("putpack 2 5 1,a,1", "?"),
+            ("putklv 1 19 00 aabb", "?"),
+        ] {
+            assert_eq!(answered(case), right, "{case}");
+        }
+        assert_eq!(answered(&format!("putklv 1 19 {first} aabb")), format!("{first}02aabb"));
+        assert_eq!(answered(&format!("putklv 1 18 {first} aabb")), "refused 3 19");
+        assert_eq!(answered(&format!("rewrite 99 {first}80{second}8101cc")), format!("{first}00{second}01cc"));
+        assert_eq!(answered(&format!("putprimer 26 3c0a{first}")), format!("00000001000000123c0a{first}"));
+    }
+
+    #[test]
     fn every_word_answers_no_bytes() {
         let answers = line::WORDS.map(|(word, fields)| {
-            let line = [word, &b" 0".repeat(fields.len())[..], b" -"].concat();
-            answered(str::from_utf8(&line).unwrap())
+            let texts = fields.iter().map(|field| match field {
+                line::Field::Bytes | line::Field::List => " -".to_string(),
+                line::Field::Label => format!(" {}", "00".repeat(16)),
+                _ => " 0".to_string(),
+            });
+            answered(&[str::from_utf8(word).unwrap(), &texts.collect::<String>()].concat())
         });
         let no_values = "fl=- fd=- ts=- et=- sa=- tr=- ei=- wb=- nd=- efl=- wbf=- enc=-/-/-/-/-/- tint=- fps=-";
         assert_eq!(answers[..11], ["cut", "|0", "-|0", "", "|0", "|0", "-", "", "", "-", "?"]);
         assert_eq!(answers[11..24], [no_values, "", "0,-", "", "", "", "", "", "", "cut", "", "", ""]);
-        assert_eq!(answers[24..], ["|0,0", "|0,0", "-|0,0", "", "", "", "accepted", "refused 7", "refused 6"]);
+        assert_eq!(answers[24..33], ["|0,0", "|0,0", "-|0,0", "", "", "", "accepted", "refused 7", "refused 6"]);
+        assert_eq!(answers[33..], ["1", "refused 15", "refused 15", "refused 3 4", "refused 3 8", "refused 15", "-"]);
     }
 }

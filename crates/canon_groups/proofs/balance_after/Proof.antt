@@ -1,5 +1,5 @@
 -- `canon_groups::balance_after` meets its contract, field by field.
-use Rattle.canon_groups.specs.Groups.{balanceAfter}
+use Rattle.canon_groups.proofs.Raws.{balance-raws}
 use borrow.Author.Needs.{needs}
 use Rattle.canon_groups.proofs.balance_after.Statement.{statement}
 use Rattle.canon_groups.proofs.balance_after.Tie as tie
@@ -35,7 +35,6 @@ after-requires-5 : tie.Need-after-requires-5
 after-requires-5 c κs = search needs
 
 returns : tie.Need-returns
-unfolding balanceAfter
 returns c =
     let c1 = c .before in
     let c2 = c1 .before in
@@ -49,13 +48,12 @@ returns c =
     let c10 = c9 .before in
     let c11 = c10 .before in
     let c12 = c11 .before in
-    λ i. record {
-      mode = (rw (c12 .balance-mode .ensures) at (c11 .after .ensures)) i;
-      preset = (rw (c9 .balance-preset .ensures) at (c8 .after2 .ensures)) i;
-      accurate = (c6 .after3 .ensures) i;
-      temperature = (rw (c3 .whole .ensures, c4 .u32-of .ensures) at (c2 .after4 .ensures)) i;
-      isotemperature = (rw (c1 .line-index .ensures) at (c .after5 .ensures)) i;
-    }
+    balance-raws _ _ _
+    (rw (c12 .balance-mode .ensures) at (c11 .after .ensures))
+    (rw (c9 .balance-preset .ensures) at (c8 .after2 .ensures))
+    (c6 .after3 .ensures)
+    (rw (c3 .whole .ensures, c4 .u32-of .ensures) at (c2 .after4 .ensures))
+    (rw (c1 .line-index .ensures) at (c .after5 .ensures))
 
 pub balance-after-spec : {M : Type 1} → statement M
 balance-after-spec =

@@ -1,5 +1,5 @@
 -- `canon_groups::gain_after` meets its contract, field by field.
-use Rattle.canon_groups.specs.Groups.{gainAfter}
+use Rattle.canon_groups.proofs.Raws.{gain-raws}
 use borrow.Author.Needs.{needs}
 use Rattle.canon_groups.proofs.gain_after.Statement.{statement}
 use Rattle.canon_groups.proofs.gain_after.Tie as tie
@@ -59,7 +59,6 @@ after-requires-8 : tie.Need-after-requires-8
 after-requires-8 c κs = search needs
 
 returns : tie.Need-returns
-unfolding gainAfter
 returns c =
     let c1 = c .before in
     let c2 = c1 .before in
@@ -83,13 +82,12 @@ returns c =
     let c20 = c19 .before in
     let c21 = c20 .before in
     let c22 = c21 .before in
-    λ i. record {
-      mode = (rw (c22 .after .ensures) at (c11 .after4 .ensures)) i;
-      level = (rw (c8 .decibels2 .ensures, c17 .after2 .ensures, c18 .decibels .ensures, c20 .u16-of .ensures) at (c7 .after5 .ensures)) i;
-      «nd_filter» = (rw (c5 .whole2 .ensures, c6 .u32-of2 .ensures, c13 .after3 .ensures, c14 .whole .ensures, c15 .u32-of .ensures, c16 .u16-of2 .ensures) at (c4 .after6 .ensures)) i;
-      «iso_speed» = (rw (c3 .whole3 .ensures) at (c2 .after7 .ensures)) i;
-      «base_iso» = (rw (c1 .whole4 .ensures) at (c .after8 .ensures)) i;
-    }
+    gain-raws _ _ _
+    (rw (c22 .after .ensures) at (c11 .after4 .ensures))
+    (rw (c8 .decibels2 .ensures, c17 .after2 .ensures, c18 .decibels .ensures, c20 .u16-of .ensures) at (c7 .after5 .ensures))
+    (rw (c5 .whole2 .ensures, c6 .u32-of2 .ensures, c13 .after3 .ensures, c14 .whole .ensures, c15 .u32-of .ensures, c16 .u16-of2 .ensures) at (c4 .after6 .ensures))
+    (rw (c3 .whole3 .ensures) at (c2 .after7 .ensures))
+    (rw (c1 .whole4 .ensures) at (c .after8 .ensures))
 
 pub gain-after-spec : {M : Type 1} → statement M
 gain-after-spec =

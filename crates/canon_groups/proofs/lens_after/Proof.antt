@@ -1,5 +1,5 @@
 -- `canon_groups::lens_after` meets its contract, field by field.
-use Rattle.canon_groups.specs.Groups.{lensAfter}
+use Rattle.canon_groups.proofs.Raws.{lens-raws}
 use borrow.Author.Needs.{needs}
 use Rattle.canon_groups.proofs.lens_after.Statement.{statement}
 use Rattle.canon_groups.proofs.lens_after.Tie as tie
@@ -56,7 +56,6 @@ after-requires-8 : tie.Need-after-requires-8
 after-requires-8 c κs = search needs
 
 returns : tie.Need-returns
-unfolding lensAfter
 returns c =
     let c1 = c .before in
     let c2 = c1 .before in
@@ -75,16 +74,15 @@ returns c =
     let c15 = c14 .before in
     let c16 = c15 .before in
     let c17 = c16 .before in
-    λ i. record {
-      «focal_length» = (rw (c16 .tenths .ensures, c17 .u32-of .ensures) at (c15 .after .ensures)) i;
-      «electric_zoom» = (rw (c14 .zoom .ensures) at (c13 .after2 .ensures)) i;
-      «f_number» = (rw (c12 .aperture .ensures) at (c11 .after3 .ensures)) i;
-      «t_number» = (rw (c10 .aperture2 .ensures) at (c9 .after4 .ensures)) i;
-      «real_focal_length» = (rw (c8 .tenths2 .ensures) at (c7 .after5 .ensures)) i;
-      «focal_length_35» = (rw (c6 .tenths3 .ensures) at (c5 .after6 .ensures)) i;
-      «set_distortion» = (rw (c3 .flag .ensures) at (c2 .after7 .ensures)) i;
-      «lens_value» = (rw (c1 .offset .ensures) at (c .after8 .ensures)) i;
-    }
+    lens-raws _ _ _
+    (rw (c16 .tenths .ensures, c17 .u32-of .ensures) at (c15 .after .ensures))
+    (rw (c14 .zoom .ensures) at (c13 .after2 .ensures))
+    (rw (c12 .aperture .ensures) at (c11 .after3 .ensures))
+    (rw (c10 .aperture2 .ensures) at (c9 .after4 .ensures))
+    (rw (c8 .tenths2 .ensures) at (c7 .after5 .ensures))
+    (rw (c6 .tenths3 .ensures) at (c5 .after6 .ensures))
+    (rw (c3 .flag .ensures) at (c2 .after7 .ensures))
+    (rw (c1 .offset .ensures) at (c .after8 .ensures))
 
 pub lens-after-spec : {M : Type 1} → statement M
 lens-after-spec =

@@ -1,5 +1,5 @@
 -- `canon_groups::modes_after` meets its contract, field by field.
-use Rattle.canon_groups.specs.Groups.{modesAfter}
+use Rattle.canon_groups.proofs.Raws.{modes-raws}
 use borrow.Author.Needs.{needs}
 use Rattle.canon_groups.proofs.modes_after.Statement.{statement}
 use Rattle.canon_groups.proofs.modes_after.Tie as tie
@@ -35,7 +35,6 @@ after-requires-6 : tie.Need-after-requires-6
 after-requires-6 c κs = search needs
 
 returns : tie.Need-returns
-unfolding modesAfter
 returns c =
     let c1 = c .before in
     let c2 = c1 .before in
@@ -52,14 +51,13 @@ returns c =
     let c13 = c12 .before in
     let c14 = c13 .before in
     let c15 = c14 .before in
-    λ i. record {
-      focus = (rw (c15 .two-bits .ensures) at (c14 .after .ensures)) i;
-      stabilizer = (rw (c12 .two-bits2 .ensures) at (c11 .after2 .ensures)) i;
-      «aperture_mode» = (c9 .after3 .ensures) i;
-      infrared = (c7 .after4 .ensures) i;
-      «high_sensitivity» = (rw (c4 .sensitivity .ensures) at (c3 .after5 .ensures)) i;
-      iso = (rw (c1 .iso-mode .ensures) at (c .after6 .ensures)) i;
-    }
+    modes-raws _ _ _
+    (rw (c15 .two-bits .ensures) at (c14 .after .ensures))
+    (rw (c12 .two-bits2 .ensures) at (c11 .after2 .ensures))
+    (c9 .after3 .ensures)
+    (c7 .after4 .ensures)
+    (rw (c4 .sensitivity .ensures) at (c3 .after5 .ensures))
+    (rw (c1 .iso-mode .ensures) at (c .after6 .ensures))
 
 pub modes-after-spec : {M : Type 1} → statement M
 modes-after-spec =

@@ -1,5 +1,5 @@
 -- `canon_groups::ranges_after` meets its contract, field by field.
-use Rattle.canon_groups.specs.Groups.{rangesAfter}
+use Rattle.canon_groups.proofs.Raws.{ranges-raws}
 use borrow.Author.Needs.{needs}
 use Rattle.canon_groups.proofs.ranges_after.Statement.{statement}
 use Rattle.canon_groups.proofs.ranges_after.Tie as tie
@@ -29,7 +29,6 @@ after-requires-4 : tie.Need-after-requires-4
 after-requires-4 c κs = search needs
 
 returns : tie.Need-returns
-unfolding rangesAfter
 returns c =
     let c1 = c .before in
     let c2 = c1 .before in
@@ -38,12 +37,11 @@ returns c =
     let c5 = c4 .before in
     let c6 = c5 .before in
     let c7 = c6 .before in
-    λ i. record {
-      camera = (rw (c7 .dynamic-range .ensures) at (c6 .after .ensures)) i;
-      «base_gamma» = (rw (c5 .tenths .ensures) at (c4 .after2 .ensures)) i;
-      tilt = (rw (c3 .offset .ensures) at (c2 .after3 .ensures)) i;
-      roll = (rw (c1 .offset2 .ensures) at (c .after4 .ensures)) i;
-    }
+    ranges-raws _ _ _
+    (rw (c7 .dynamic-range .ensures) at (c6 .after .ensures))
+    (rw (c5 .tenths .ensures) at (c4 .after2 .ensures))
+    (rw (c3 .offset .ensures) at (c2 .after3 .ensures))
+    (rw (c1 .offset2 .ensures) at (c .after4 .ensures))
 
 pub ranges-after-spec : {M : Type 1} → statement M
 ranges-after-spec =

@@ -1,5 +1,5 @@
 -- `canon_groups::shutter_after` meets its contract, field by field.
-use Rattle.canon_groups.specs.Groups.{shutterAfter}
+use Rattle.canon_groups.proofs.Raws.{shutter-raws}
 use borrow.Author.Needs.{needs}
 use Rattle.canon_groups.proofs.shutter_after.Statement.{statement}
 use Rattle.canon_groups.proofs.shutter_after.Tie as tie
@@ -26,7 +26,6 @@ after-requires-3 : tie.Need-after-requires-3
 after-requires-3 c κs = search needs
 
 returns : tie.Need-returns
-unfolding shutterAfter
 returns c =
     let c1 = c .before in
     let c2 = c1 .before in
@@ -35,11 +34,10 @@ returns c =
     let c5 = c4 .before in
     let c6 = c5 .before in
     let c7 = c6 .before in
-    λ i. record {
-      speed = (rw (c7 .quotient .ensures) at (c6 .after .ensures)) i;
-      mode = (rw (c4 .two-bits .ensures) at (c3 .after2 .ensures)) i;
-      value = (rw (c1 .quotient2 .ensures, c2 .u16-of .ensures) at (c .after3 .ensures)) i;
-    }
+    shutter-raws _ _ _
+    (rw (c7 .quotient .ensures) at (c6 .after .ensures))
+    (rw (c4 .two-bits .ensures) at (c3 .after2 .ensures))
+    (rw (c1 .quotient2 .ensures, c2 .u16-of .ensures) at (c .after3 .ensures))
 
 pub shutter-after-spec : {M : Type 1} → statement M
 shutter-after-spec =

@@ -56,7 +56,7 @@ loop-less : tie.Need-loop-less Inv-loop μ-loop
 loop-less c = search needs
 
 loop-again : tie.Need-loop-again Inv-loop μ-loop
-loop-again c = (omega arith, rw (c .camera-after .ensures, c .before .pack-at .ensures, c .before .before .before .loop .inv .1) (packs-more _ _))
+loop-again c = (omega arith, rw (c .camera-after .ensures, c .before .pack-at .ensures, c .before .before .before .loop .inv .1) (packs-more _ (λ i. c .before .before .before .before .before .before .before .before .shared-slice-known .given i .fits) _ (omega arith)))
 
 returns-2 : tie.Need-returns-2 Inv-loop μ-loop
 returns-2 c =

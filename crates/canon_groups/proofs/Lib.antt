@@ -1,0 +1,3 @@
+pub mod Raws
+pub mod Bits
+pub mod Table

@@ -1,0 +1,2 @@
+pub mod Klvs
+pub mod Back

@@ -1,0 +1,5 @@
+pub mod Sums
+pub mod Tables
+pub mod Packs
+pub mod Loops
+pub mod Cameras
