@@ -36,7 +36,7 @@ extern "C" {
 
 /* Done. "Nothing found", "over" and "waits" are answers, too, and have this number. */
 #define BRINE_DONE 0u
-/* The end is larger than the buffer. The cursor stays as it was. */
+/* The end is larger than the buffer, or more records are stated than an index holds. A cursor stays as it was. */
 #define BRINE_END_PAST_BUFFER 1u
 /* More bytes have arrived than the limit; a piece would pass the limit or the known end of a fed walk. The cursor, or the state,
  * stays as it was. */
@@ -66,8 +66,15 @@ extern "C" {
 #define BRINE_INDEFINITE 13u
 /* brine_strict: the length or the value of the record there is not wholly before the end. */
 #define BRINE_PAST_END 14u
-/* brine_put_*: a field does not fit its bits, the length not its size, the size is not 1 to 9, the pack not 1 to 20. */
+/* A field does not fit: what is written does not fit its bits, the length not its size, the size is not 1 to 9, the pack not 1 to 20; in an
+ * index a size outside 1 to 9, or a group neither below BRINE_GROUPS nor BRINE_GROUP_OTHER. */
 #define BRINE_NO_FIT 15u
+/* A record for an index starts at 2^48 or behind it. */
+#define BRINE_START 16u
+/* A record for an index begins before the last one's end. */
+#define BRINE_ORDER 17u
+/* All room of an index is in use. */
+#define BRINE_FULL 18u
 
 /* ---- Found: the first place of an out -------------------------------------------------------------------------------- */
 
@@ -564,6 +571,45 @@ uint32_t brine_put_primer(const uint64_t *tags, size_t tags_len, const uint8_t *
  *    11  31+1, 28+3, 16+12, 0+16   14, 15  16+16                   18  31+1, 0+16             20  24+2 */
 uint32_t brine_put_pack(uint64_t id, const uint64_t *fields, size_t fields_len, uint8_t *room, size_t room_len, size_t at,
                         uint64_t out[1]);
+
+/* ---- An index beside a file ------------------------------------------------------------------------------------------ */
+
+/* The group of the record at a place of s, as an index has it: its number among the first `groups` groups of a tally of s
+ * (brine_tally), or BRINE_GROUP_OTHER where it is in none of them. */
+#define BRINE_GROUP_OTHER 4095
+uint64_t brine_group(const uint8_t *s, size_t s_len, const size_t firsts[BRINE_GROUPS], size_t groups, size_t at);
+
+/* An index is `used` records in a lent buffer, with room for index_len / 16; the bytes left over are not touched. Rows (`columns`
+ * is false) are 16 bytes a record, most significant bit first: 48 bits start, 4 bits size of the length field, 12 bits group, 64
+ * bits length. Columns are all starts, 6 bytes for each record of room, and behind them the rest of each, 10 bytes. An index has
+ * one layout from its first record on.
+ *
+ * Adds a record behind the last one.
+ * entry: start, size of the length field (1 to 9), group (below BRINE_GROUPS, or BRINE_GROUP_OTHER), length.
+ * out: how many records there are now.
+ * Status: BRINE_DONE; else the first of these that fits, with the index as it was: BRINE_END_PAST_BUFFER, BRINE_NO_FIT,
+ * BRINE_START, BRINE_ORDER, BRINE_FULL. */
+#define BRINE_ENTRY_START 0
+#define BRINE_ENTRY_LENGTH_BYTES 1
+#define BRINE_ENTRY_GROUP 2
+#define BRINE_ENTRY_LENGTH 3
+#define BRINE_ENTRY_PLACES 4
+uint32_t brine_index_add(uint8_t *index, size_t index_len, bool columns, size_t used, const uint64_t entry[BRINE_ENTRY_PLACES],
+                         uint64_t out[1]);
+
+/* The first record that covers a byte position, by its label, its length or its value.
+ * out: found, number of the record (from 0), its start, size of its length field, group, length.
+ * BRINE_NOTHING: none covers it. In a buffer that brine_index_add did not make it is one of the records, or none.
+ * Status: BRINE_DONE, BRINE_END_PAST_BUFFER. */
+#define BRINE_AT_FOUND 0
+#define BRINE_AT_NUMBER 1
+#define BRINE_AT_START 2
+#define BRINE_AT_LENGTH_BYTES 3
+#define BRINE_AT_GROUP 4
+#define BRINE_AT_LENGTH 5
+#define BRINE_AT_PLACES 6
+uint32_t brine_index_find(const uint8_t *index, size_t index_len, bool columns, size_t used, uint64_t position,
+                          uint64_t out[BRINE_AT_PLACES]);
 
 #ifdef __cplusplus
 }

@@ -18,6 +18,7 @@ static uint64_t frame[4], tags[BYTES / 16];
 static const uint64_t fields[5] = {7, 31, 1, 32767, 255};
 static size_t firsts[64], counts[64];
 static int64_t positions[2];
+static const uint64_t entry[BRINE_ENTRY_PLACES] = {(1ull << 48) - 1, 9, BRINE_GROUP_OTHER, UINT64_MAX};
 static volatile uint64_t sink;
 
 __attribute__((noinline)) static uint32_t nothing(const uint8_t *s, size_t s_len, size_t end, size_t at, uint64_t *places)
@@ -73,6 +74,9 @@ static void do_camera(void) { sink = brine_camera(bytes, BYTES, kind, bits); }
 static void do_sequence(void) { sink = brine_sequence(bytes, BYTES, out, positions); }
 static void do_strict(void) { sink = brine_strict(bytes, BYTES, BYTES, out); }
 static void do_random_index(void) { sink = brine_random_index(bytes, BYTES, out); }
+static void do_group(void) { sink = brine_group(bytes, BYTES, firsts, 64, 0); }
+static void do_index_add(void) { sink = brine_index_add(payload, BYTES, true, BYTES / 16 - 1, entry, out); }
+static void do_index_find(void) { sink = brine_index_find(bytes, BYTES, true, BYTES / 16, UINT64_MAX / 2, out); }
 static void do_pair(void) { sink = brine_pair(bytes, BYTES, 0, SIZE_MAX, out); }
 static void do_shortest(void) { sink = brine_shortest(UINT64_MAX); }
 static void do_put_length(void) { sink = brine_put_length(UINT64_MAX, 9, payload, BYTES, 1, out); }
@@ -94,6 +98,7 @@ static struct {
     CALL(arri_step), CALL(canon_step), CALL(of_dynamic), CALL(of_alexa35), CALL(arri_values), CALL(package), CALL(camera),
     CALL(sequence), CALL(strict), CALL(random_index), CALL(pair),
     CALL(shortest), CALL(put_length), CALL(put_klv), CALL(rewrite), CALL(put_item), CALL(put_primer), CALL(put_pack),
+    CALL(group), CALL(index_add), CALL(index_find),
 };
 enum { CALLS = sizeof calls / sizeof *calls };
 

@@ -1,6 +1,7 @@
 //! The port's speed beside the published Rust's, as tables in markdown: bench/run builds and runs this.
 
 mod fed;
+mod index;
 mod inputs;
 mod linear;
 mod measure;

@@ -106,6 +106,22 @@ pub fn descriptor_items(s: &[u8]) -> u64 {
     v.count()
 }
 
+/// A record of an index: start, size of the length field, group, length.
+pub type Entry = [u64; 4];
+
+/// Adds a record to an index of so many; its status.
+pub fn index_add(index: &mut [u8], columns: bool, used: usize, entry: &Entry) -> u32 {
+    let mut out = [0];
+    unsafe { brine_index_add(index.as_mut_ptr(), index.len(), columns, used, entry, &mut out) }
+}
+
+/// The number of the record of an index that covers a position, and 1; 0 where none does.
+pub fn index_find(index: &[u8], columns: bool, used: usize, position: u64) -> u64 {
+    let mut out = [0; 6];
+    unsafe { brine_index_find(index.as_ptr(), index.len(), columns, used, position, &mut out) };
+    out[0] * (out[1] + 1)
+}
+
 /// A list of values, as a call writes them out.
 #[derive(Default)]
 pub struct Values {

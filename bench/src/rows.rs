@@ -4,7 +4,7 @@ use memchr::memmem;
 
 use crate::inputs::*;
 use crate::measure::Pass;
-use crate::{port, published, tables, values};
+use crate::{index, port, published, tables, values};
 
 /// A row: the same work by the port and by the Rust, and by others for interest.
 pub struct Row {
@@ -26,6 +26,7 @@ pub fn rows() -> Vec<Row> {
     batches(&mut rows);
     tables::rows(&mut rows);
     values::rows(&mut rows);
+    index::rows(&mut rows);
     rows
 }
 

@@ -76,6 +76,9 @@ fn answered<T>(status: u32, told: u64, answer: T) -> Result<T, Refusal> {
         13 => Err(Refusal::Indefinite { place }),
         14 => Err(Refusal::PastEnd { place }),
         15 => Err(Refusal::NoFit),
+        16 => Err(Refusal::Start),
+        17 => Err(Refusal::Order),
+        18 => Err(Refusal::Full),
         _ => unreachable!("{status} is no status of the library"),
     }
 }
@@ -368,4 +371,23 @@ pub fn put_pack(id: u64, fields: &[u64], room: &mut [u8], at: usize) -> Result<u
     let mut out = [0];
     let status = unsafe { brine_put_pack(id, fields.as_ptr(), fields.len(), room.as_mut_ptr(), room.len(), at, &mut out) };
     answered(status, out[0], out[0] as usize)
+}
+
+/// `brine_group`.
+pub fn group(s: &[u8], firsts: &[usize; 64], groups: usize, at: usize) -> u64 {
+    unsafe { brine_group(s.as_ptr(), s.len(), firsts, groups, at) }
+}
+
+/// `brine_index_add`: how many records there are now.
+pub fn index_add(index: &mut [u8], columns: bool, used: usize, entry: &[u64; 4]) -> Result<usize, Refusal> {
+    let mut out = [0];
+    let status = unsafe { brine_index_add(index.as_mut_ptr(), index.len(), columns, used, entry, &mut out) };
+    answered(status, 0, out[0] as usize)
+}
+
+/// `brine_index_find`: found, number, start, size, group, length.
+pub fn index_find(index: &[u8], columns: bool, used: usize, position: u64) -> Result<[u64; 6], Refusal> {
+    let mut out = [0; 6];
+    let status = unsafe { brine_index_find(index.as_ptr(), index.len(), columns, used, position, &mut out) };
+    answered(status, 0, out)
 }

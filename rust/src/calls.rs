@@ -64,4 +64,11 @@ unsafe extern "C" {
     fn brine_put_pack(
         id: u64, fields: *const u64, fields_len: usize, room: *mut u8, room_len: usize, at: usize, out: &mut [u64; 1],
     ) -> u32;
+    fn brine_group(s: *const u8, s_len: usize, firsts: &[usize; 64], groups: usize, at: usize) -> u64;
+    fn brine_index_add(
+        index: *mut u8, index_len: usize, columns: bool, used: usize, entry: &[u64; 4], out: &mut [u64; 1],
+    ) -> u32;
+    fn brine_index_find(
+        index: *const u8, index_len: usize, columns: bool, used: usize, position: u64, out: &mut [u64; 6],
+    ) -> u32;
 }

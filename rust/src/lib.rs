@@ -32,6 +32,7 @@
 //! | Canon's camera metadata and sequence info | [`canon`] |
 //! | whole files: a strict gate, the random index pack | [`checks`] |
 //! | writing lengths, KLVs, sets, primers, Canon's packs | [`write`] |
+//! | an index beside a file: the record at a byte position | [`index`] |
 #![forbid(unsafe_op_in_unsafe_fn)]
 #![deny(missing_docs, unsafe_code)]
 
@@ -41,6 +42,7 @@ pub mod canon;
 pub mod checks;
 pub mod feeding;
 pub mod frames;
+pub mod index;
 pub mod items;
 pub mod outline;
 mod places;
@@ -54,6 +56,7 @@ pub use canon::{Camera, Member, Packages, Sequence, Value, camera_metadata, pack
 pub use checks::{Pair, RandomIndex, strict};
 pub use feeding::{Ending, Fed, FedRecord, Feeding, Piece};
 pub use frames::{Arri, Canon, CanonItem, Frame, FrameCursor, Sony};
+pub use index::{Entry, Index, Layout};
 pub use items::{Coding, Item, Items, Klvs, klvs, local_items};
 pub use outline::outline_into;
 pub use record::{Length, Record, Refusal, next_key, read_ber, same_label};

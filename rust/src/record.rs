@@ -23,7 +23,7 @@ use crate::walk::Cursor;
 /// Why a call refuses: it has answered nothing else and written nothing.
 #[derive(Clone, Copy, PartialEq, Eq, Debug)]
 pub enum Refusal {
-    /// 1: the end is larger than the buffer.
+    /// 1: the end is larger than the buffer, or more records are stated than an index holds.
     EndPastBuffer,
     /// 2: more bytes have arrived than the limit, or a piece would pass the limit or the known end.
     PastLimit,
@@ -69,8 +69,15 @@ pub enum Refusal {
         /// Where records break off.
         place: usize,
     },
-    /// 15: a writer: a field does not fit its bits, the length not its size, the size is not 1 to 9, the pack not 1 to 20.
+    /// 15: a field does not fit: of what is written its bits, the length its size, the size 1 to 9, the pack 1 to 20; of an entry of an
+    /// index its size 1 to 9, its group below 64 or 4095.
     NoFit,
+    /// 16: a record for an index starts at 2^48 or behind it.
+    Start,
+    /// 17: a record for an index begins before the last one's end.
+    Order,
+    /// 18: all room of an index is in use.
+    Full,
 }
 
 impl Refusal {
@@ -96,6 +103,9 @@ impl Refusal {
             Refusal::Indefinite { .. } => 13,
             Refusal::PastEnd { .. } => 14,
             Refusal::NoFit => 15,
+            Refusal::Start => 16,
+            Refusal::Order => 17,
+            Refusal::Full => 18,
         }
     }
 
@@ -122,7 +132,7 @@ impl Refusal {
 impl fmt::Display for Refusal {
     fn fmt(&self, f: &mut fmt::Formatter) -> fmt::Result {
         match self {
-            Refusal::EndPastBuffer => write!(f, "the end is larger than the buffer"),
+            Refusal::EndPastBuffer => write!(f, "more is stated than the buffer holds"),
             Refusal::PastLimit => write!(f, "more bytes have arrived than the limit"),
             Refusal::NoRoom { needed } => write!(f, "{needed} bytes of room are needed"),
             Refusal::ItemPastSet => write!(f, "an item runs past its set"),
@@ -136,7 +146,10 @@ impl fmt::Display for Refusal {
             Refusal::NoLength { place } => write!(f, "the record at {place} has no length"),
             Refusal::Indefinite { place } => write!(f, "the length of the record at {place} is 80h"),
             Refusal::PastEnd { place } => write!(f, "the record at {place} is not wholly before the end"),
-            Refusal::NoFit => write!(f, "what is to be written has no such form"),
+            Refusal::NoFit => write!(f, "a field does not fit"),
+            Refusal::Start => write!(f, "the record starts at 2^48 or behind it"),
+            Refusal::Order => write!(f, "the record begins before the last one's end"),
+            Refusal::Full => write!(f, "all room is in use"),
         }
     }
 }
@@ -344,8 +357,11 @@ mod tests {
             Refusal::Indefinite { place: 4 },
             Refusal::PastEnd { place: 5 },
             Refusal::NoFit,
+            Refusal::Start,
+            Refusal::Order,
+            Refusal::Full,
         ];
-        assert_eq!(all.map(Refusal::number), [1, 2, 3, 4, 6, 7, 8, 9, 10, 11, 12, 13, 14, 15]);
+        assert_eq!(all.map(Refusal::number), [1, 2, 3, 4, 6, 7, 8, 9, 10, 11, 12, 13, 14, 15, 16, 17, 18]);
         assert_eq!(all[8..13].iter().map(|refusal| refusal.place()).collect::<Vec<_>>(), [1, 2, 3, 4, 5].map(Some));
         assert_eq!(all[2].to_string(), "7 bytes of room are needed");
     }

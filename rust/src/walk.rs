@@ -276,6 +276,19 @@ impl Tally {
     pub fn groups(&self) -> impl Iterator<Item = (usize, usize)> {
         self.firsts.into_iter().zip(self.counts).take(self.groups)
     }
+
+    /// The number of the group that the record at a place belongs to, as an index has it: below 64, or 4095 for other. `s` is the
+    /// file that was tallied.
+    ///
+    /// ```
+    /// let label = *b"\x06\x0e\x2b\x34\x01\x01\x01\x0d\x0e\x15\x00\x01\x00\x01\x00\x00";
+    /// let file = [&label[..], &[0]].concat();
+    /// let tally = brinethimble::tally(&file);
+    /// assert_eq!((tally.group(&file, 0), tally.group(&file, 1)), (0, brinethimble::Entry::OTHER));
+    /// ```
+    pub fn group(&self, s: &[u8], place: usize) -> u64 {
+        boundary::group(s, &self.firsts, self.groups, place)
+    }
 }
 
 /// The records of the finished walk of all of `s`, in groups: by same label, and two sets whose labels differ in how their items

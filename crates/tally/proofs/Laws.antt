@@ -1,5 +1,5 @@
 -- Laws of the tally: what a call that adds a record leaves, and a loop of them. Assumes nothing.
-use Prim.Native.Nat.{ℕ, zero, suc, _+_, _-_, _≤_, _<_}
+use Prim.Native.Nat.{ℕ, zero, suc, _+_, _-_, _≤_, _<_, min}
 use mathlib.Core.Path.{_≡_, refl, sym, ap, _∙_}
 use mathlib.Core.List.{List, []}
 use mathlib.Core.Bool.{Bool}
@@ -18,7 +18,7 @@ use Rattle.records.specs.Records.{finishedFrom}
 use Rattle.records.proofs.Stepping.{finished-steps}
 use Rattle.tally.specs.declared.Tally.{Tally}
 use Rattle.tally.specs.Groups.{Groups, same, groupsOf, answerOf, front}
-use Rattle.tally.specs.Adding.{groupOf, addTo, view, Below, Kept, Added}
+use Rattle.tally.specs.Adding.{groupOf, groupAt, addTo, view, Below, Kept, Added}
 use Rattle.tally.proofs.Grouped.{tallyFrom, tallyOf, tally-grouped}
 use Rattle.tally.proofs.Steps.{Next}
 
@@ -34,6 +34,16 @@ unfolding firstBelow
 group-view s f g p =
     first-cong (λ j. same s (getD (take g f) j 0) p) (λ j. same s (getD f j 0) p) (g - 0) 0
     (λ k m. ap (λ (x : ℕ). same s x p) (getD-take g f k 0 (omega arith)))
+
+-- the group that is answered
+module _ (s f : List ℕ) (groups p j : ℕ) (e : j ≡ groupOf s f (min (min groups 64) (length f)) p) where
+  pub group-is : j < min (min groups 64) (length f) → j ≡ groupAt s f groups p
+  unfolding groupAt
+  group-is h = rw (← e, lt-ltb _ _ h)
+
+  pub group-none : min (min groups 64) (length f) ≤ j → 4095 ≡ groupAt s f groups p
+  unfolding groupAt
+  group-none h = rw (← e, le-ltb _ _ h)
 
 module _ (s f c : List ℕ) (t : Tally) (p : ℕ) (hf : t .groups ≤ length f) (hc : t .groups ≤ length c) where
   group-here : groupOf s (take (t .groups) f) (length (take (t .groups) f)) p ≡ groupOf s f (t .groups) p

@@ -1,5 +1,5 @@
 -- The tally record by record: what a call that counts one more record does to the groups in the lent lists.
-use Prim.Native.Nat.{ℕ, _+_, _≤_, _<_}
+use Prim.Native.Nat.{ℕ, _+_, _≤_, _<_, min}
 use mathlib.Core.Path.{_≡_}
 use mathlib.Core.List.{List, [], _∷_, _++_}
 use mathlib.Core.Bool.{cond}
@@ -12,6 +12,13 @@ use Rattle.tally.specs.Groups.{Groups, same}
 -- the first group that the record at p belongs to, else the number of groups
 abbrev pub groupOf : List ℕ → List ℕ → ℕ → ℕ → ℕ
 groupOf s firsts groups p = firstBelow (λ j. same s (getD firsts j 0) p) groups 0
+
+-- its number, of as many groups as are stated, the list has, and 64; 4095 where it belongs to none of them
+unfoldable pub groupAt : List ℕ → List ℕ → ℕ → ℕ → ℕ
+groupAt s firsts groups p =
+    let n = min (min groups 64) (length firsts) in
+    let j = groupOf s firsts n p in
+    cond (ltb j n) j 4095
 
 abbrev pub more : Groups → ℕ → Groups
 more g j = record { firsts = g .firsts; counts = set (g .counts) j (getD (g .counts) j 0 + 1); other = g .other }

@@ -4,7 +4,8 @@ ghost use mathlib.Core.Path.{_≡_};
 ghost use Prim.Native.Nat.{_+_, _≤_, _<_};
 ghost use lib.ListN.{length};
 ghost use Rattle.tally.specs.Groups.{sameGroup, same, groupsOf, answerOf, front};
-ghost use Rattle.tally.specs.Adding.{groupOf, Below, Added};
+ghost use Rattle.tally.specs.Adding.{groupOf, groupAt, Below, Added};
+use parts::lesser;
 use walk::Cursor;
 use walk::Step;
 
@@ -38,6 +39,15 @@ fn group_of(s: &[u8], firsts: &[usize], groups: usize, p: usize) -> usize
         j += 1;
     }
     j
+}
+
+// The number of the group that the record at p belongs to, among as many as are stated, the list has, and 64; else 4095.
+pub fn group_at(s: &[u8], firsts: &[usize], groups: usize, p: usize) -> u64
+    ensures { λ r. ⌜ r ≡ groupAt (now (s .entry)) (now (firsts .entry)) groups p ⌝ }
+{
+    let n = lesser(lesser(groups, 64), firsts.len());
+    let j = group_of(s, firsts, n, p);
+    if j < n { j as u64 } else { 4095 }
 }
 
 // How many groups stand in the lent lists, and how many records fit none.

@@ -7,3 +7,4 @@ pub mod RandomIndex
 pub mod Outline
 pub mod Fed
 pub mod Writers
+pub mod Indexes

@@ -1,4 +1,4 @@
-//! A case's line: its word, its numbers and its bytes.
+//! A case's line: its word, its numbers, and its bytes or its script.
 
 /// The longest line that is a case, in characters.
 const LONGEST: usize = 65_535;
@@ -18,12 +18,14 @@ pub enum Field {
     List,
     /// Digits, each a number.
     Digits,
+    /// Operations, which stand as they are in the bytes' place.
+    Script,
     /// The bytes.
     Bytes,
 }
 
 /// Every word with its fields.
-pub const WORDS: [(&[u8], &[Field]); 42] = [
+pub const WORDS: [(&[u8], &[Field]); 43] = [
     (b"ber", &[Field::Bytes]),
     (b"walk", &[Field::End, Field::Bytes]),
     (b"step", &[Field::End, Field::Number, Field::Bytes]),
@@ -66,6 +68,7 @@ pub const WORDS: [(&[u8], &[Field]); 42] = [
     (b"rewrite", &[Field::Number, Field::Bytes]),
     (b"fed", &[Field::Number, Field::Digits, Field::Bytes]),
     (b"fedend", &[Field::End, Field::Digits, Field::Bytes]),
+    (b"index", &[Field::Coding, Field::Number, Field::Script]),
 ];
 
 /// The most fields that a word has.
@@ -100,6 +103,7 @@ pub fn parse<'a>(line: &[u8], room: &'a mut Vec<u8>) -> Option<Case<'a>> {
     for (field, text) in fields.iter().zip(texts) {
         match field {
             Field::Bytes => read_bytes(text, room)?,
+            Field::Script => room.extend_from_slice(text),
             Field::Label => label = label_of(text)?,
             Field::List => list = list_of(text)?,
             Field::Digits => list = digits_of(text)?,

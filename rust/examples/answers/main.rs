@@ -6,6 +6,7 @@ mod canon;
 mod checks;
 mod fed;
 mod forms;
+mod index;
 mod line;
 mod outline;
 mod passed;
@@ -98,6 +99,7 @@ fn reply(out: &mut Text, case: &Case) -> std::result::Result<(), Refusal> {
         b"rewrite" => written::rewrite(out, s, a)?,
         b"fed" => fed::fed(out, Feeding::limit(a), &case.list, s),
         b"fedend" => fed::fed(out, Feeding::end(a), &case.list, s),
+        b"index" => index::index(out, s, a == 1, b),
         _ => unreachable!("the words of line::WORDS are all here"),
     }
     Ok(())
@@ -204,6 +206,22 @@ mod tests {
     }
 
     #[test]
+    fn scripts_over_an_index() {
+        let script = "a:1:1:0:2,a:20:2:0:0,f:0,f:19,f:37,f:38,a:19:1:0:0,a:38:1:0:0";
+        let answers = "ok;ok;-;0:1:1:0:2;1:20:2:0:0;-;refused 17;refused 18;";
+        let rows = "0000000000011000000000000000000200000000001420000000000000000000";
+        let columns = "0000000000010000000000141000000000000000000220000000000000000000";
+        assert_eq!(answered(&format!("index 0 32 {script}")), format!("{answers}|{rows}"));
+        assert_eq!(answered(&format!("index 1 32 {script}")), format!("{answers}|{columns}"));
+        assert_eq!(answered("index 0 1 f:0"), "-;|00");
+        for line in
+            ["index 0 16 ", "index 0 16 a", "index 0 16 f:", "index 0 16 f:0,", "index 0 16 o:0", "index 2 16 -", "index 0 16 f:0:0"]
+        {
+            assert_eq!(answered(line), "?", "{line:?}");
+        }
+    }
+
+    #[test]
     fn every_word_answers_no_bytes() {
         let answers = line::WORDS.map(|(word, fields)| {
             let texts = fields.iter().map(|field| match field {
@@ -218,5 +236,6 @@ mod tests {
         assert_eq!(answers[11..24], [no_values, "", "0,-", "", "", "", "", "", "", "cut", "", "", ""]);
         assert_eq!(answers[24..33], ["|0,0", "|0,0", "-|0,0", "", "", "", "accepted", "refused 7", "refused 6"]);
         assert_eq!(answers[33..], ["1", "refused 15", "refused 15", "refused 3 4", "refused 3 8", "refused 15", "-"]);
+        assert_eq!(answers[24..], ["|0,0", "|0,0", "-|0,0", "", "", "", "accepted", "refused 7", "refused 6", "|-"]);
     }
 }
