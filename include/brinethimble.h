@@ -41,8 +41,8 @@ extern "C" {
 /* More bytes have arrived than the limit; a piece would pass the limit or the known end of a fed walk. The cursor, or the state,
  * stays as it was. */
 #define BRINE_PAST_LIMIT 2u
-/* The payload, the text or what is to be written is longer than the lent room. The length that is needed is answered, the room is
- * not written. */
+/* The payload, the text, the turned index or what is to be written is longer than the lent room. The length that is needed is answered,
+ * the room is not written. */
 #define BRINE_NO_ROOM 3u
 /* An item of a descriptor runs past its set. */
 #define BRINE_ITEM_PAST_SET 4u
@@ -610,6 +610,15 @@ uint32_t brine_index_add(uint8_t *index, size_t index_len, bool columns, size_t 
 #define BRINE_AT_PLACES 6
 uint32_t brine_index_find(const uint8_t *index, size_t index_len, bool columns, size_t used, uint64_t position,
                           uint64_t out[BRINE_AT_PLACES]);
+
+/* An index in rows as columns, at the start of `room`, all of its bytes: also room that is not in use, and last the bytes left over.
+ * Every call answers on the one as on the other, and turning back gives the same bytes.
+ * out: how many bytes that are, which is rows_len. Bytes of the room behind them keep their contents.
+ * Status: BRINE_DONE; BRINE_NO_ROOM, with the length that is needed in out and nothing in the room. */
+uint32_t brine_index_columns(const uint8_t *rows, size_t rows_len, uint8_t *room, size_t room_len, uint64_t out[1]);
+
+/* An index in columns as rows, likewise. */
+uint32_t brine_index_rows(const uint8_t *columns, size_t columns_len, uint8_t *room, size_t room_len, uint64_t out[1]);
 
 #ifdef __cplusplus
 }

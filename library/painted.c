@@ -77,6 +77,8 @@ static void do_random_index(void) { sink = brine_random_index(bytes, BYTES, out)
 static void do_group(void) { sink = brine_group(bytes, BYTES, firsts, 64, 0); }
 static void do_index_add(void) { sink = brine_index_add(payload, BYTES, true, BYTES / 16 - 1, entry, out); }
 static void do_index_find(void) { sink = brine_index_find(bytes, BYTES, true, BYTES / 16, UINT64_MAX / 2, out); }
+static void do_index_columns(void) { sink = brine_index_columns(bytes, BYTES, payload, BYTES, out); }
+static void do_index_rows(void) { sink = brine_index_rows(bytes, BYTES, payload, BYTES, out); }
 static void do_pair(void) { sink = brine_pair(bytes, BYTES, 0, SIZE_MAX, out); }
 static void do_shortest(void) { sink = brine_shortest(UINT64_MAX); }
 static void do_put_length(void) { sink = brine_put_length(UINT64_MAX, 9, payload, BYTES, 1, out); }
@@ -98,7 +100,7 @@ static struct {
     CALL(arri_step), CALL(canon_step), CALL(of_dynamic), CALL(of_alexa35), CALL(arri_values), CALL(package), CALL(camera),
     CALL(sequence), CALL(strict), CALL(random_index), CALL(pair),
     CALL(shortest), CALL(put_length), CALL(put_klv), CALL(rewrite), CALL(put_item), CALL(put_primer), CALL(put_pack),
-    CALL(group), CALL(index_add), CALL(index_find),
+    CALL(group), CALL(index_add), CALL(index_find), CALL(index_columns), CALL(index_rows),
 };
 enum { CALLS = sizeof calls / sizeof *calls };
 

@@ -391,3 +391,17 @@ pub fn index_find(index: &[u8], columns: bool, used: usize, position: u64) -> Re
     let status = unsafe { brine_index_find(index.as_ptr(), index.len(), columns, used, position, &mut out) };
     answered(status, 0, out)
 }
+
+/// `brine_index_columns`.
+pub fn index_columns(rows: &[u8], room: &mut [u8]) -> Result<(), Refusal> {
+    let mut out = [0];
+    let status = unsafe { brine_index_columns(rows.as_ptr(), rows.len(), room.as_mut_ptr(), room.len(), &mut out) };
+    answered(status, out[0], ())
+}
+
+/// `brine_index_rows`.
+pub fn index_rows(columns: &[u8], room: &mut [u8]) -> Result<(), Refusal> {
+    let mut out = [0];
+    let status = unsafe { brine_index_rows(columns.as_ptr(), columns.len(), room.as_mut_ptr(), room.len(), &mut out) };
+    answered(status, out[0], ())
+}

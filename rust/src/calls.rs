@@ -71,4 +71,6 @@ unsafe extern "C" {
     fn brine_index_find(
         index: *const u8, index_len: usize, columns: bool, used: usize, position: u64, out: &mut [u64; 6],
     ) -> u32;
+    fn brine_index_columns(rows: *const u8, rows_len: usize, room: *mut u8, room_len: usize, out: &mut [u64; 1]) -> u32;
+    fn brine_index_rows(columns: *const u8, columns_len: usize, room: *mut u8, room_len: usize, out: &mut [u64; 1]) -> u32;
 }

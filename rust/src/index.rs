@@ -126,6 +126,31 @@ impl<B: AsRef<[u8]>> Index<B> {
         self.bytes.as_ref()
     }
 
+    /// The same index in another layout, in the first bytes of other room; turning back gives the same bytes.
+    ///
+    /// ```
+    /// use brinethimble::{Entry, Index, Layout, Refusal};
+    ///
+    /// let mut rows = Index::new([0; 33], Layout::Rows);
+    /// rows.add(Entry { start: 1, length_bytes: 1, group: 0, length: 2 })?;
+    /// let columns = rows.turned([0; 33], Layout::Columns)?;
+    /// assert_eq!(columns.bytes()[..22], *b"\0\0\0\0\0\x01\0\0\0\0\0\0\x10\0\0\0\0\0\0\0\0\x02");
+    /// assert_eq!(columns.find(19), rows.find(19));
+    /// assert_eq!(columns.turned([0; 33], Layout::Rows)?.bytes(), rows.bytes());
+    /// assert_eq!(columns.turned([0; 32], Layout::Rows).unwrap_err(), Refusal::NoRoom { needed: 33 });
+    /// # Ok::<(), Refusal>(())
+    /// ```
+    pub fn turned<C: AsRef<[u8]> + AsMut<[u8]>>(&self, mut room: C, layout: Layout) -> Result<Index<C>, Refusal> {
+        let (bytes, out) = (self.bytes(), room.as_mut());
+        let needed = bytes.len();
+        match (self.layout, layout) {
+            (Layout::Rows, Layout::Columns) => boundary::index_columns(bytes, out)?,
+            (Layout::Columns, Layout::Rows) => boundary::index_rows(bytes, out)?,
+            _ => out.get_mut(..needed).ok_or(Refusal::NoRoom { needed })?.copy_from_slice(bytes),
+        }
+        Ok(Index::stored(room, layout, self.used))
+    }
+
     /// The first of its records that covers a byte position of the file, with its number from 0; none where no record does. In
     /// bytes that adding did not make, where starts may not ascend, it is one of the records, or none.
     pub fn find(&self, position: u64) -> Result<Option<(usize, Entry)>, Refusal> {
@@ -228,6 +253,24 @@ mod tests {
                 let (number, into) = (position / 20, position % 20);
                 let covered = number < 1000 && into < 17 + number * 20 % 4;
                 assert_eq!(index.find(position).unwrap().map(|(number, _)| number as u64), covered.then_some(number));
+            }
+        }
+    }
+
+    #[test]
+    fn turning_back_gives_the_same_bytes() {
+        for count in 0..100u8 {
+            let bytes: Vec<u8> = (0..count).collect();
+            for (there, back) in [(Layout::Columns, Layout::Rows), (Layout::Rows, Layout::Columns)] {
+                let index = Index::stored(bytes.clone(), back, 0);
+                let turned = index.turned(vec![0; count.into()], there).unwrap();
+                assert_eq!(turned.turned(vec![0; count.into()], back).unwrap().bytes(), bytes);
+                assert_eq!(index.turned(vec![7; 100], back).unwrap().bytes()[..count.into()], bytes);
+                if let Some(less) = usize::from(count).checked_sub(1) {
+                    let refusal = Refusal::NoRoom { needed: count.into() };
+                    assert_eq!(index.turned(vec![0; less], there).unwrap_err(), refusal);
+                    assert_eq!(index.turned(vec![0; less], back).unwrap_err(), refusal);
+                }
             }
         }
     }

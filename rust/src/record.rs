@@ -27,7 +27,7 @@ pub enum Refusal {
     EndPastBuffer,
     /// 2: more bytes have arrived than the limit, or a piece would pass the limit or the known end.
     PastLimit,
-    /// 3: the payload, the text or what is to be written is longer than the lent room.
+    /// 3: the payload, the text, the turned index or what is to be written is longer than the lent room.
     NoRoom {
         /// Its length.
         needed: usize,

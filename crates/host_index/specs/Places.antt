@@ -11,6 +11,8 @@ use Rattle.index.specs.declared.Looked.{Looked}
 use Rattle.index.specs.declared.Looked.the-variants as looked
 use Rattle.index.specs.declared.Added.{Added}
 use Rattle.index.specs.declared.Added.the-variants as added
+use Rattle.index_layouts.specs.declared.Turned.{Turned}
+use Rattle.index_layouts.specs.declared.Turned.the-variants as turnedTo
 
 unfoldable pub layoutOf : Bool → Layout
 layoutOf false = Rows
@@ -51,3 +53,8 @@ unfoldable pub findPlaces : Looked → List ℕ → List ℕ
 findPlaces (looked.At f) out = foundPlaces f
 findPlaces looked.Nothing out = replicate 6 0
 findPlaces looked.Short out = out
+
+-- turning: 0, or 3 where the room is shorter
+unfoldable pub turnStatus : Turned → ℕ
+turnStatus turnedTo.Done = 0
+turnStatus (turnedTo.Longer n) = 3

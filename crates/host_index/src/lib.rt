@@ -1,12 +1,17 @@
 // What a host links of the index: numbers and slices in, a status and lent places out (include/brinethimble.h).
 ghost use mathlib.Core.Path.{_≡_};
+ghost use mathlib.Core.List.{[], _∷_};
+ghost use lib.ListN.{length};
 ghost use Rattle.tally.specs.Adding.{groupAt};
 ghost use Rattle.index.specs.Index.{findOf, addOf, afterAdd};
-ghost use Rattle.host_index.specs.Places.{layoutOf, entryOf, addStatus, addPlaces, findStatus, findPlaces};
+ghost use Rattle.index.specs.declared.Layout.the-variants.{Rows, Columns};
+ghost use Rattle.index_layouts.specs.Turning.{turnOf, afterTurn};
+ghost use Rattle.host_index.specs.Places.{layoutOf, entryOf, addStatus, addPlaces, findStatus, findPlaces, turnStatus};
 use index::Added;
 use index::Entry;
 use index::Layout;
 use index::Looked;
+use index_layouts::Turned;
 
 // The group of the record at a place, among the first groups of a tally.
 #[no_mangle]
@@ -98,4 +103,38 @@ pub extern "C" fn brine_index_find(
         }
         Looked::Short => 1,
     }
+}
+
+// The status of turning an index.
+fn turn_status(t: Turned) -> u32
+    ensures { λ r. ⌜ r ≡ turnStatus t ⌝ }
+{
+    match t {
+        Turned::Done => 0,
+        Turned::Longer(_) => 3,
+    }
+}
+
+// Rows turned into columns, in a room of their own.
+#[no_mangle]
+pub extern "C" fn brine_index_columns(rows: &[u8], room: &mut [u8], out: &mut [u64; 1]) -> u32
+    ensures { λ r. ⌜ r ≡ turnStatus (turnOf (now (rows .entry)) (now (room .entry))) ⌝ }
+    ensures { λ r. ⌜ now (out .exit) ≡ length (now (rows .entry)) ∷ [] ⌝ }
+    ensures { λ r. ⌜ now (room .exit) ≡ afterTurn Columns (now (rows .entry)) (now (room .entry)) ⌝ }
+{
+    *out = [rows.len() as u64];
+    let t = index_layouts::to_columns(rows, room);
+    turn_status(t)
+}
+
+// Columns turned into rows.
+#[no_mangle]
+pub extern "C" fn brine_index_rows(columns: &[u8], room: &mut [u8], out: &mut [u64; 1]) -> u32
+    ensures { λ r. ⌜ r ≡ turnStatus (turnOf (now (columns .entry)) (now (room .entry))) ⌝ }
+    ensures { λ r. ⌜ now (out .exit) ≡ length (now (columns .entry)) ∷ [] ⌝ }
+    ensures { λ r. ⌜ now (room .exit) ≡ afterTurn Rows (now (columns .entry)) (now (room .entry)) ⌝ }
+{
+    *out = [columns.len() as u64];
+    let t = index_layouts::to_rows(columns, room);
+    turn_status(t)
 }

@@ -1,4 +1,4 @@
-//! `index`: adding to an index and asking it (docs/RULES.md, "L10. An index beside the file").
+//! `index` and `turn`: adding to an index, asking it, and turning it (docs/RULES.md, "L10. An index beside the file", "L12. Columns instead of rows").
 
 use brinethimble::{Entry, Index, Layout, Refusal};
 
@@ -80,4 +80,12 @@ pub fn index(out: &mut Text, text: &[u8], columns: bool, room: usize) {
         put(out, answer);
     }
     out.put("|").bytes(index.bytes());
+}
+
+/// `turn`: an index in the other layout, columns (1) or rows, in so much room.
+pub fn turn(out: &mut Text, s: &[u8], columns: bool, room: usize) -> Result<(), Refusal> {
+    let index = Index::stored(s, layout(!columns), 0);
+    let turned = index.turned(vec![0; room.min(s.len())], layout(columns))?;
+    out.bytes(turned.bytes());
+    Ok(())
 }

@@ -25,7 +25,7 @@ pub enum Field {
 }
 
 /// Every word with its fields.
-pub const WORDS: [(&[u8], &[Field]); 43] = [
+pub const WORDS: [(&[u8], &[Field]); 44] = [
     (b"ber", &[Field::Bytes]),
     (b"walk", &[Field::End, Field::Bytes]),
     (b"step", &[Field::End, Field::Number, Field::Bytes]),
@@ -69,6 +69,7 @@ pub const WORDS: [(&[u8], &[Field]); 43] = [
     (b"fed", &[Field::Number, Field::Digits, Field::Bytes]),
     (b"fedend", &[Field::End, Field::Digits, Field::Bytes]),
     (b"index", &[Field::Coding, Field::Number, Field::Script]),
+    (b"turn", &[Field::Coding, Field::Number, Field::Bytes]),
 ];
 
 /// The most fields that a word has.

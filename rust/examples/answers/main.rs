@@ -100,6 +100,7 @@ fn reply(out: &mut Text, case: &Case) -> std::result::Result<(), Refusal> {
         b"fed" => fed::fed(out, Feeding::limit(a), &case.list, s),
         b"fedend" => fed::fed(out, Feeding::end(a), &case.list, s),
         b"index" => index::index(out, s, a == 1, b),
+        b"turn" => index::turn(out, s, a == 1, b)?,
         _ => unreachable!("the words of line::WORDS are all here"),
     }
     Ok(())
@@ -222,10 +223,19 @@ mod tests {
     }
 
     #[test]
+    fn an_index_is_turned() {
+        let rows = "000000000001100000000000000000020000000000142000000000000000000077";
+        let columns = "000000000001000000000014100000000000000000022000000000000000000077";
+        assert_eq!(answered(&format!("turn 1 33 {rows}")), columns);
+        assert_eq!(answered(&format!("turn 0 18446744073709551615 {columns}")), rows);
+        assert_eq!(answered(&format!("turn 1 32 {rows}")), "refused 3 33");
+    }
+
+    #[test]
     fn every_word_answers_no_bytes() {
         let answers = line::WORDS.map(|(word, fields)| {
             let texts = fields.iter().map(|field| match field {
-                line::Field::Bytes | line::Field::List => " -".to_string(),
+                line::Field::Bytes | line::Field::List | line::Field::Script => " -".to_string(),
                 line::Field::Label => format!(" {}", "00".repeat(16)),
                 _ => " 0".to_string(),
             });
@@ -235,7 +245,7 @@ mod tests {
         assert_eq!(answers[..11], ["cut", "|0", "-|0", "", "|0", "|0", "-", "", "", "-", "?"]);
         assert_eq!(answers[11..24], [no_values, "", "0,-", "", "", "", "", "", "", "cut", "", "", ""]);
         assert_eq!(answers[24..33], ["|0,0", "|0,0", "-|0,0", "", "", "", "accepted", "refused 7", "refused 6"]);
-        assert_eq!(answers[33..], ["1", "refused 15", "refused 15", "refused 3 4", "refused 3 8", "refused 15", "-"]);
-        assert_eq!(answers[24..], ["|0,0", "|0,0", "-|0,0", "", "", "", "accepted", "refused 7", "refused 6", "|-"]);
+        assert_eq!(answers[33..40], ["1", "refused 15", "refused 15", "refused 3 4", "refused 3 8", "refused 15", "-"]);
+        assert_eq!(answers[40..], ["|clean", "|clean", "|-", "-"]);
     }
 }
