@@ -73,8 +73,12 @@ extern "C" {
 #define BRINE_START 16u
 /* A record for an index begins before the last one's end. */
 #define BRINE_ORDER 17u
-/* All room of an index is in use. */
+/* All room of an index is in use; of a shared one, no entry is free beyond what the other file has or its share reserves. */
 #define BRINE_FULL 18u
+/* A shared index has no such file, it is not open, or it is opened twice. */
+#define BRINE_FILE 19u
+/* The shares of two files are above the whole index. */
+#define BRINE_SHARES 20u
 
 /* ---- Found: the first place of an out -------------------------------------------------------------------------------- */
 
@@ -619,6 +623,43 @@ uint32_t brine_index_columns(const uint8_t *rows, size_t rows_len, uint8_t *room
 
 /* An index in columns as rows, likewise. */
 uint32_t brine_index_rows(const uint8_t *columns, size_t columns_len, uint8_t *room, size_t room_len, uint64_t out[1]);
+
+/* ---- An index that two files share ----------------------------------------------------------------------------------- */
+
+/* Two files, 0 and 1, share the records of one index buffer, each with a reserved share, closed or not. A file that has fewer records
+ * than its share is never refused for room; one that has as many or more exactly when no record is free beyond the larger of the other's
+ * count and share. Look-ups in a file do not depend on the other. `room` is the state of both, which the caller keeps: room for so
+ * many records, the two shares, the two counts, whether each file is open (1) or not (0). File 0 stands from the first record up,
+ * file 1 from the last one down. A room that these calls did not make is answered without harm.
+ *
+ * Sets a room up in a buffer, with two shares and no file open; the whole is index_len / 16.
+ * Status: BRINE_DONE; BRINE_SHARES, with nothing set up. */
+#define BRINE_ROOM_WHOLE 0
+#define BRINE_ROOM_SHARE_0 1
+#define BRINE_ROOM_SHARE_1 2
+#define BRINE_ROOM_USED_0 3
+#define BRINE_ROOM_USED_1 4
+#define BRINE_ROOM_OPEN_0 5
+#define BRINE_ROOM_OPEN_1 6
+#define BRINE_ROOM_PLACES 7
+uint32_t brine_shared_set_up(const uint8_t *index, size_t index_len, size_t a, size_t b, uint64_t room[BRINE_ROOM_PLACES]);
+
+/* Opens a file, which has no record then. Status: BRINE_DONE; BRINE_FILE, with the room as it was. */
+uint32_t brine_shared_open(uint64_t room[BRINE_ROOM_PLACES], uint64_t file);
+
+/* Closes a file: its records are free again, its share stays. Status: BRINE_DONE; BRINE_FILE, with the room as it was. */
+uint32_t brine_shared_close(uint64_t room[BRINE_ROOM_PLACES], uint64_t file);
+
+/* Adds a record behind the last one of a file. entry: as brine_index_add's.
+ * Status: BRINE_DONE; else the first of these that fits, with index and room as they were: BRINE_END_PAST_BUFFER (the room states
+ * more than the buffer holds), BRINE_FILE, BRINE_FIELD, BRINE_START, BRINE_ORDER, BRINE_FULL. */
+uint32_t brine_shared_add(uint8_t *index, size_t index_len, bool columns, uint64_t room[BRINE_ROOM_PLACES], uint64_t file,
+                          const uint64_t entry[BRINE_ENTRY_PLACES]);
+
+/* The first record of a file that covers a byte position. out: as brine_index_find's.
+ * Status: BRINE_DONE, BRINE_END_PAST_BUFFER, BRINE_FILE. */
+uint32_t brine_shared_find(const uint8_t *index, size_t index_len, bool columns, const uint64_t room[BRINE_ROOM_PLACES],
+                           uint64_t file, uint64_t position, uint64_t out[BRINE_AT_PLACES]);
 
 #ifdef __cplusplus
 }

@@ -18,6 +18,7 @@ static uint64_t frame[4], tags[BYTES / 16];
 static const uint64_t fields[5] = {7, 31, 1, 32767, 255};
 static size_t firsts[64], counts[64];
 static int64_t positions[2];
+static uint64_t room[BRINE_ROOM_PLACES];
 static const uint64_t entry[BRINE_ENTRY_PLACES] = {(1ull << 48) - 1, 9, BRINE_GROUP_OTHER, UINT64_MAX};
 static volatile uint64_t sink;
 
@@ -79,6 +80,11 @@ static void do_index_add(void) { sink = brine_index_add(payload, BYTES, true, BY
 static void do_index_find(void) { sink = brine_index_find(bytes, BYTES, true, BYTES / 16, UINT64_MAX / 2, out); }
 static void do_index_columns(void) { sink = brine_index_columns(bytes, BYTES, payload, BYTES, out); }
 static void do_index_rows(void) { sink = brine_index_rows(bytes, BYTES, payload, BYTES, out); }
+static void do_shared_set_up(void) { sink = brine_shared_set_up(bytes, BYTES, 1000, 2000, room); }
+static void do_shared_open(void) { sink = brine_shared_open(room, 0) + brine_shared_open(room, 1); }
+static void do_shared_add(void) { sink = brine_shared_add(payload, BYTES, true, room, 1, entry); }
+static void do_shared_find(void) { sink = brine_shared_find(payload, BYTES, true, room, 1, UINT64_MAX / 2, out); }
+static void do_shared_close(void) { sink = brine_shared_close(room, 1); }
 static void do_pair(void) { sink = brine_pair(bytes, BYTES, 0, SIZE_MAX, out); }
 static void do_shortest(void) { sink = brine_shortest(UINT64_MAX); }
 static void do_put_length(void) { sink = brine_put_length(UINT64_MAX, 9, payload, BYTES, 1, out); }
@@ -101,6 +107,7 @@ static struct {
     CALL(sequence), CALL(strict), CALL(random_index), CALL(pair),
     CALL(shortest), CALL(put_length), CALL(put_klv), CALL(rewrite), CALL(put_item), CALL(put_primer), CALL(put_pack),
     CALL(group), CALL(index_add), CALL(index_find), CALL(index_columns), CALL(index_rows),
+    CALL(shared_set_up), CALL(shared_open), CALL(shared_add), CALL(shared_find), CALL(shared_close),
 };
 enum { CALLS = sizeof calls / sizeof *calls };
 

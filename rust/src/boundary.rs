@@ -19,6 +19,9 @@ pub type Inside = [u64; 7];
 /// bytes passed, next cursor's `since`.
 pub type Framed = [u64; 10];
 
+/// A room of two files: the whole, their shares, their counts, whether each is open.
+pub type Room = [u64; 7];
+
 /// A list of values as the library writes them: what each is, and its bits.
 #[derive(Default)]
 pub struct Values {
@@ -79,6 +82,8 @@ fn answered<T>(status: u32, told: u64, answer: T) -> Result<T, Refusal> {
         16 => Err(Refusal::Start),
         17 => Err(Refusal::Order),
         18 => Err(Refusal::Full),
+        19 => Err(Refusal::File),
+        20 => Err(Refusal::Shares),
         _ => unreachable!("{status} is no status of the library"),
     }
 }
@@ -404,4 +409,36 @@ pub fn index_rows(columns: &[u8], room: &mut [u8]) -> Result<(), Refusal> {
     let mut out = [0];
     let status = unsafe { brine_index_rows(columns.as_ptr(), columns.len(), room.as_mut_ptr(), room.len(), &mut out) };
     answered(status, out[0], ())
+}
+
+/// `brine_shared_set_up`.
+pub fn shared_set_up(index: &[u8], a: usize, b: usize) -> Result<Room, Refusal> {
+    let mut room = [0; 7];
+    let status = unsafe { brine_shared_set_up(index.as_ptr(), index.len(), a, b, &mut room) };
+    answered(status, 0, room)
+}
+
+/// `brine_shared_open`.
+pub fn shared_open(room: &mut Room, file: u64) -> Result<(), Refusal> {
+    let status = unsafe { brine_shared_open(room, file) };
+    answered(status, 0, ())
+}
+
+/// `brine_shared_close`.
+pub fn shared_close(room: &mut Room, file: u64) -> Result<(), Refusal> {
+    let status = unsafe { brine_shared_close(room, file) };
+    answered(status, 0, ())
+}
+
+/// `brine_shared_add`.
+pub fn shared_add(index: &mut [u8], columns: bool, room: &mut Room, file: u64, entry: &[u64; 4]) -> Result<(), Refusal> {
+    let status = unsafe { brine_shared_add(index.as_mut_ptr(), index.len(), columns, room, file, entry) };
+    answered(status, 0, ())
+}
+
+/// `brine_shared_find`: found, number, start, size, group, length.
+pub fn shared_find(index: &[u8], columns: bool, room: &Room, file: u64, position: u64) -> Result<[u64; 6], Refusal> {
+    let mut out = [0; 6];
+    let status = unsafe { brine_shared_find(index.as_ptr(), index.len(), columns, room, file, position, &mut out) };
+    answered(status, 0, out)
 }

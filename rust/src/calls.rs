@@ -73,4 +73,13 @@ unsafe extern "C" {
     ) -> u32;
     fn brine_index_columns(rows: *const u8, rows_len: usize, room: *mut u8, room_len: usize, out: &mut [u64; 1]) -> u32;
     fn brine_index_rows(columns: *const u8, columns_len: usize, room: *mut u8, room_len: usize, out: &mut [u64; 1]) -> u32;
+    fn brine_shared_set_up(index: *const u8, index_len: usize, a: usize, b: usize, room: &mut [u64; 7]) -> u32;
+    fn brine_shared_open(room: &mut [u64; 7], file: u64) -> u32;
+    fn brine_shared_close(room: &mut [u64; 7], file: u64) -> u32;
+    fn brine_shared_add(
+        index: *mut u8, index_len: usize, columns: bool, room: &mut [u64; 7], file: u64, entry: &[u64; 4],
+    ) -> u32;
+    fn brine_shared_find(
+        index: *const u8, index_len: usize, columns: bool, room: &[u64; 7], file: u64, position: u64, out: &mut [u64; 6],
+    ) -> u32;
 }

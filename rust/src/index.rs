@@ -180,6 +180,69 @@ impl<B: AsRef<[u8]> + AsMut<[u8]>> Index<B> {
     }
 }
 
+/// An index that two files in transit share, each with a reserved share of its entries, closed or not. File 0 stands from the first
+/// entry up, file 1 from the last one down.
+///
+/// ```
+/// use brinethimble::{Entry, Layout, Refusal, SharedIndex};
+///
+/// let entry = |start| Entry { start, length_bytes: 1, group: 0, length: 0 };
+/// let mut room = SharedIndex::new([0; 64], Layout::Rows, [1, 2])?;
+/// room.open(0)?;
+/// assert_eq!((room.add(0, entry(0)), room.add(0, entry(17))), (Ok(()), Ok(())));
+/// assert_eq!(room.add(0, entry(34)), Err(Refusal::Full), "two entries are free, and both are the other's share");
+/// room.open(1)?;
+/// assert_eq!(room.add(1, entry(5)), Ok(()));
+/// assert_eq!((room.find(0, 20)?, room.find(1, 20)?), (Some((1, entry(17))), Some((0, entry(5)))));
+/// room.close(0)?;
+/// assert_eq!(room.find(0, 20), Err(Refusal::File));
+/// # Ok::<(), Refusal>(())
+/// ```
+#[derive(Clone, Debug)]
+pub struct SharedIndex<B> {
+    bytes: B,
+    layout: Layout,
+    room: boundary::Room,
+}
+
+impl<B: AsRef<[u8]>> SharedIndex<B> {
+    /// A room with two shares, and no file open. All of the bytes are its.
+    ///
+    /// ```
+    /// use brinethimble::{Layout, Refusal, SharedIndex};
+    ///
+    /// assert!(SharedIndex::new([0; 64], Layout::Columns, [1, 3]).is_ok());
+    /// assert_eq!(SharedIndex::new([0; 64], Layout::Columns, [3, 2]).unwrap_err(), Refusal::Shares);
+    /// ```
+    pub fn new(bytes: B, layout: Layout, shares: [usize; 2]) -> Result<Self, Refusal> {
+        let room = boundary::shared_set_up(bytes.as_ref(), shares[0], shares[1])?;
+        Ok(SharedIndex { bytes, layout, room })
+    }
+
+    /// Opens a file, 0 or 1, which has no record then.
+    pub fn open(&mut self, file: u64) -> Result<(), Refusal> {
+        boundary::shared_open(&mut self.room, file)
+    }
+
+    /// Closes a file: its entries are free again, its share stays.
+    pub fn close(&mut self, file: u64) -> Result<(), Refusal> {
+        boundary::shared_close(&mut self.room, file)
+    }
+
+    /// The first of a file's records that covers a byte position, with its number from 0; none where no record does.
+    pub fn find(&self, file: u64, position: u64) -> Result<Option<(usize, Entry)>, Refusal> {
+        boundary::shared_find(self.bytes.as_ref(), self.layout == Layout::Columns, &self.room, file, position).map(Entry::found)
+    }
+}
+
+impl<B: AsRef<[u8]> + AsMut<[u8]>> SharedIndex<B> {
+    /// Adds a record behind the last one of a file. A refusal leaves the room as it was.
+    pub fn add(&mut self, file: u64, entry: Entry) -> Result<(), Refusal> {
+        let columns = self.layout == Layout::Columns;
+        boundary::shared_add(self.bytes.as_mut(), columns, &mut self.room, file, &entry.places())
+    }
+}
+
 #[cfg(test)]
 mod tests {
     use super::*;
@@ -272,6 +335,29 @@ mod tests {
                     assert_eq!(index.turned(vec![0; less], back).unwrap_err(), refusal);
                 }
             }
+        }
+    }
+
+    #[test]
+    fn two_files_share_a_room() {
+        let entry = |start| Entry { start, length_bytes: 1, group: 0, length: 0 };
+        for layout in LAYOUTS {
+            let mut room = SharedIndex::new([0; 64], layout, [1, 2]).unwrap();
+            assert_eq!(room.open(2), Err(Refusal::File));
+            assert_eq!((room.open(0), room.open(0)), (Ok(()), Err(Refusal::File)));
+            let bad = Entry { length_bytes: 0, ..entry(0) };
+            assert_eq!((room.add(1, bad), room.add(0, bad)), (Err(Refusal::File), Err(Refusal::NoFit)));
+            assert_eq!([0, 17, 34].map(|start| room.add(0, entry(start))), [Ok(()), Ok(()), Err(Refusal::Full)]);
+            assert_eq!(room.add(0, entry(33)), Err(Refusal::Order));
+            room.open(1).unwrap();
+            assert_eq!([0, 17, 34].map(|start| room.add(1, entry(start))), [Ok(()), Ok(()), Err(Refusal::Full)]);
+            assert_eq!(room.find(0, 17), Ok(Some((1, entry(17)))));
+            assert_eq!((room.close(0), room.close(0)), (Ok(()), Err(Refusal::File)));
+            assert_eq!([34, 51].map(|start| room.add(1, entry(start))), [Ok(()), Err(Refusal::Full)]);
+            room.open(0).unwrap();
+            assert_eq!((room.find(0, 17), room.add(0, entry(100))), (Ok(None), Ok(())));
+            let found = |position| room.find(1, position).unwrap().map(|(number, _)| number);
+            assert_eq!([0, 17, 50, 51].map(found), [Some(0), Some(1), Some(2), None]);
         }
     }
 

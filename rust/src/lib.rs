@@ -32,7 +32,7 @@
 //! | Canon's camera metadata and sequence info | [`canon`] |
 //! | whole files: a strict gate, the random index pack | [`checks`] |
 //! | writing lengths, KLVs, sets, primers, Canon's packs | [`write`] |
-//! | an index beside a file: the record at a byte position | [`index`] |
+//! | an index beside a file, or shared by two: the record at a byte position | [`index`] |
 #![forbid(unsafe_op_in_unsafe_fn)]
 #![deny(missing_docs, unsafe_code)]
 
@@ -56,7 +56,7 @@ pub use canon::{Camera, Member, Packages, Sequence, Value, camera_metadata, pack
 pub use checks::{Pair, RandomIndex, strict};
 pub use feeding::{Ending, Fed, FedRecord, Feeding, Piece};
 pub use frames::{Arri, Canon, CanonItem, Frame, FrameCursor, Sony};
-pub use index::{Entry, Index, Layout};
+pub use index::{Entry, Index, Layout, SharedIndex};
 pub use items::{Coding, Item, Items, Klvs, klvs, local_items};
 pub use outline::outline_into;
 pub use record::{Length, Record, Refusal, next_key, read_ber, same_label};

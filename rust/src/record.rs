@@ -76,8 +76,12 @@ pub enum Refusal {
     Start,
     /// 17: a record for an index begins before the last one's end.
     Order,
-    /// 18: all room of an index is in use.
+    /// 18: all room of an index is in use; of a shared one, no entry is free beyond what the other file has or its share reserves.
     Full,
+    /// 19: a shared index has no such file, it is not open, or it is opened twice.
+    File,
+    /// 20: the shares of two files are above the whole index.
+    Shares,
 }
 
 impl Refusal {
@@ -106,6 +110,8 @@ impl Refusal {
             Refusal::Start => 16,
             Refusal::Order => 17,
             Refusal::Full => 18,
+            Refusal::File => 19,
+            Refusal::Shares => 20,
         }
     }
 
@@ -150,6 +156,8 @@ impl fmt::Display for Refusal {
             Refusal::Start => write!(f, "the record starts at 2^48 or behind it"),
             Refusal::Order => write!(f, "the record begins before the last one's end"),
             Refusal::Full => write!(f, "all room is in use"),
+            Refusal::File => write!(f, "there is no such file, or it is not open, or opened twice"),
+            Refusal::Shares => write!(f, "the shares are above the whole"),
         }
     }
 }
@@ -360,8 +368,10 @@ mod tests {
             Refusal::Start,
             Refusal::Order,
             Refusal::Full,
+            Refusal::File,
+            Refusal::Shares,
         ];
-        assert_eq!(all.map(Refusal::number), [1, 2, 3, 4, 6, 7, 8, 9, 10, 11, 12, 13, 14, 15, 16, 17, 18]);
+        assert_eq!(all.map(Refusal::number), [1, 2, 3, 4, 6, 7, 8, 9, 10, 11, 12, 13, 14, 15, 16, 17, 18, 19, 20]);
         assert_eq!(all[8..13].iter().map(|refusal| refusal.place()).collect::<Vec<_>>(), [1, 2, 3, 4, 5].map(Some));
         assert_eq!(all[2].to_string(), "7 bytes of room are needed");
     }

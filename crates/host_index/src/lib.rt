@@ -6,10 +6,9 @@ ghost use Rattle.tally.specs.Adding.{groupAt};
 ghost use Rattle.index.specs.Index.{findOf, addOf, afterAdd};
 ghost use Rattle.index.specs.declared.Layout.the-variants.{Rows, Columns};
 ghost use Rattle.index_layouts.specs.Turning.{turnOf, afterTurn};
-ghost use Rattle.host_index.specs.Places.{layoutOf, entryOf, addStatus, addPlaces, findStatus, findPlaces, turnStatus};
+ghost use Rattle.host_entries.specs.Entries.{layoutOf, entryOf};
+ghost use Rattle.host_index.specs.Places.{addStatus, addPlaces, findStatus, findPlaces, turnStatus};
 use index::Added;
-use index::Entry;
-use index::Layout;
 use index::Looked;
 use index_layouts::Turned;
 
@@ -19,33 +18,6 @@ pub extern "C" fn brine_group(s: &[u8], firsts: &[usize; 64], groups: usize, at:
     ensures { λ r. ⌜ r ≡ groupAt (now (s .entry)) (now (firsts .entry)) groups at ⌝ }
 {
     tally::group_at(s, firsts, groups, at)
-}
-
-// The layout that a flag says.
-fn layout_of(columns: bool) -> Layout
-    ensures { λ r. ⌜ r ≡ layoutOf columns ⌝ }
-{
-    if columns {
-        Layout::Columns
-    } else {
-        Layout::Rows
-    }
-}
-
-// The record that four places are.
-fn entry_of(entry: &[u64; 4]) -> Entry
-    ensures { λ r. ⌜ r ≡ entryOf (now (entry .entry)) ⌝ }
-{
-    let start = entry[0];
-    let size = entry[1];
-    let group = entry[2];
-    let len = entry[3];
-    Entry {
-        start,
-        size,
-        group,
-        len,
-    }
 }
 
 // Adds a record to an index of so many.
@@ -61,8 +33,8 @@ pub extern "C" fn brine_index_add(
     ensures { λ r. ⌜ now (out .exit) ≡ addPlaces (addOf (layoutOf columns) (now (index .entry)) used (entryOf (now (entry .entry)))) (now (out .entry)) ⌝ }
     ensures { λ r. ⌜ now (index .exit) ≡ afterAdd (layoutOf columns) (now (index .entry)) used (entryOf (now (entry .entry))) ⌝ }
 {
-    let l = layout_of(columns);
-    let e = entry_of(entry);
+    let l = host_entries::layout_of(columns);
+    let e = host_entries::entry_of(entry);
     let a = index::add(l, index, used, e);
     match a {
         Added::Done(n) => {
@@ -89,7 +61,7 @@ pub extern "C" fn brine_index_find(
     ensures { λ r. ⌜ r ≡ findStatus (findOf (layoutOf columns) (now (index .entry)) used position) ⌝ }
     ensures { λ r. ⌜ now (out .exit) ≡ findPlaces (findOf (layoutOf columns) (now (index .entry)) used position) (now (out .entry)) ⌝ }
 {
-    let l = layout_of(columns);
+    let l = host_entries::layout_of(columns);
     let a = index::find(l, index, used, position);
     match a {
         Looked::At(f) => {

@@ -2,7 +2,7 @@
 use Prim.Native.Nat.{ℕ, zero, suc, _+_, _-_, _*_, _/_, _^_, _≤_, _<_}
 use mathlib.Core.Path.{_≡_, refl, sym, _∙_}
 use mathlib.Core.List.{List, [], _∷_}
-use mathlib.Core.Bool.{Bool, true, false}
+use mathlib.Core.Bool.{Bool, true, false, _&&_}
 use mathlib.Core.Logic.{by-cases}
 use native.Mathlib.Omega.{arith}
 use native.Mathlib.Decide.{decLt}
@@ -20,7 +20,7 @@ use Rattle.index.specs.declared.Looked.the-variants as looked
 use Rattle.index.specs.declared.Added.the-variants.{Done, Short, Field, Start, Order, Full}
 use Rattle.index.specs.Places.{startPlace, restPlace, slotOf, nth, mostOf, entries}
 use Rattle.index.specs.Lists.{listed, endOf, goodFields, startsBy, foundAt, countIn, lastIn, lookIn, earlyBy, earlyIn, addTo}
-use Rattle.index.specs.Index.{roomOf, listOf, findOf, addOf}
+use Rattle.index.specs.Index.{roomOf, listOf, findOf, addOf, holds, findFrom, addFrom}
 
 -- the test of a place against an end, without the sum
 pub before-shift : (pos v n : ℕ) → v ≤ pos → ltb (pos - v) n ≡ ltb pos (v + n)
@@ -189,3 +189,57 @@ module _ (l : Layout) (b : List ℕ) (n : ℕ) where
     pub add-in : n ≤ roomOf b → addTo (ltb n (roomOf b)) (listOf l b n) e ≡ addOf l b n e
     unfolding addOf
     add-in h = rw (le-leb _ _ h)
+
+-- From either end of a room
+
+module _ (l : Layout) (down : Bool) (room : ℕ) (b : List ℕ) (n : ℕ) where
+  holds-is : room ≤ roomOf b → n ≤ room → holds room b n ≡ true
+  unfolding holds
+  holds-is h k = rw (le-leb _ _ h, le-leb _ _ k)
+
+  holds-short : roomOf b < room → holds room b n ≡ false
+  unfolding holds
+  holds-short h = rw (lt-leb _ _ h)
+
+  holds-over : room ≤ roomOf b → room < n → holds room b n ≡ false
+  unfolding holds
+  holds-over h k = rw (le-leb _ _ h, lt-leb _ _ k)
+
+  module _ (pos : ℕ) where
+    pub from-short : roomOf b < room → looked.Short ≡ findFrom l down room b n pos
+    unfolding findFrom
+    from-short h = rw (holds-short h)
+
+    pub from-over : room ≤ roomOf b → room < n → looked.Short ≡ findFrom l down room b n pos
+    unfolding findFrom
+    from-over h k = rw (holds-over h k)
+
+    pub from-in : room ≤ roomOf b → n ≤ room → lookIn (entries l down room b n) pos ≡ findFrom l down room b n pos
+    unfolding findFrom
+    from-in h k = rw (holds-is h k)
+
+  module _ (free : Bool) (e : Entry) where
+    pub add-from-short : roomOf b < room → Short ≡ addFrom l down free room b n e
+    unfolding addFrom
+    add-from-short h = rw (holds-short h)
+
+    pub add-from-over : room ≤ roomOf b → room < n → Short ≡ addFrom l down free room b n e
+    unfolding addFrom
+    add-from-over h k = rw (holds-over h k)
+
+    pub add-from-in : room ≤ roomOf b → n ≤ room → addTo (free && ltb n room) (entries l down room b n) e ≡ addFrom l down free room b n e
+    unfolding addFrom
+    add-from-in h k = rw (holds-is h k)
+
+    -- where a slot is left whenever one may be given out
+    pub add-from-free : room ≤ roomOf b → n ≤ room → (free ≡ true → n < room) → addTo free (entries l down room b n) e ≡ addFrom l down free room b n e
+    add-from-free h k f = rw (left free f) at (add-from-in h k)
+      where
+        left : (v : Bool) → (v ≡ true → n < room) → (v && ltb n room) ≡ v
+        left true f = lt-ltb n room (f refl)
+        left false f = refl
+
+-- what a test of both tells
+pub both-true : (a b : Bool) → (a && b) ≡ true → b ≡ true
+both-true true b h = h
+both-true false b h = absurd (let z : _≡_ {A = ℕ} 0 1 = cc in omega arith)

@@ -2,7 +2,7 @@
 -- the buffer goes by the answer.
 use Prim.Native.Nat.{ℕ, _/_}
 use mathlib.Core.List.{List}
-use mathlib.Core.Bool.{Bool, false, cond}
+use mathlib.Core.Bool.{Bool, false, cond, _&&_}
 use lib.ListN.{length}
 use lib.Dec.{ltb, leb}
 use Rattle.index.specs.declared.Entry.{Entry}
@@ -39,3 +39,19 @@ addOf l b n e = cond (leb n (roomOf b)) (addTo (ltb n (roomOf b)) (listOf l b n)
 
 abbrev pub afterAdd : Layout → List ℕ → ℕ → Entry → List ℕ
 afterAdd l b n e = written (addOf l b n e) l false (roomOf b) b n e
+
+-- The same of n records from the first slot of a room up, or from its last one down: docs/RULES.md, "L11. Two uploads, one index room"
+
+-- a buffer holds the room, and the room so many records
+unfoldable pub holds : ℕ → List ℕ → ℕ → Bool
+holds room b n = leb room (roomOf b) && leb n room
+
+unfoldable pub findFrom : Layout → Bool → ℕ → List ℕ → ℕ → ℕ → Looked
+findFrom l down room b n pos = cond (holds room b n) (lookIn (entries l down room b n) pos) looked.Short
+
+-- a slot must be left, and it may be given out
+unfoldable pub addFrom : Layout → Bool → Bool → ℕ → List ℕ → ℕ → Entry → Added
+addFrom l down free room b n e = cond (holds room b n) (addTo (free && ltb n room) (entries l down room b n) e) Short
+
+abbrev pub afterFrom : Layout → Bool → Bool → ℕ → List ℕ → ℕ → Entry → List ℕ
+afterFrom l down free room b n e = written (addFrom l down free room b n e) l down room b n e

@@ -8,7 +8,7 @@ ghost use lib.Dec.{ltb};
 ghost use Rattle.parts.specs.Number.{numberAt};
 ghost use Rattle.index.specs.Places.{startPlace, restPlace, slotOf, slotEntry, putSlot, mostOf, entries};
 ghost use Rattle.index.specs.Lists.{endOf, goodFields, one, ofThree, ofFew, startsBy, countIn, lookIn, earlyIn, addTo};
-ghost use Rattle.index.specs.Index.{written, findOf, addOf, afterAdd};
+ghost use Rattle.index.specs.Index.{written, findOf, addOf, afterAdd, findFrom, addFrom, afterFrom};
 
 pub struct Entry {
     pub start: u64,
@@ -332,4 +332,38 @@ pub fn add(l: Layout, b: &mut [u8], used: usize, e: Entry) -> Added
         return Added::Short;
     }
     insert(l, false, used < room, room, b, used, e)
+}
+
+// The first record that covers a position, of so many that stand from the first slot of a room up, or from its last one down.
+pub fn find_from(l: Layout, down: bool, room: usize, b: &[u8], used: usize, pos: u64) -> Looked
+    ensures { λ r. ⌜ r ≡ findFrom l down room (now (b .entry)) used pos ⌝ }
+{
+    if b.len() / 16 < room {
+        return Looked::Short;
+    }
+    if room < used {
+        return Looked::Short;
+    }
+    look(l, down, room, b, used, pos)
+}
+
+// Adds a record behind the last of these, where one is free and may be given out.
+pub fn add_from(
+    l: Layout,
+    down: bool,
+    free: bool,
+    room: usize,
+    b: &mut [u8],
+    used: usize,
+    e: Entry,
+) -> Added
+    ensures { λ r. ⌜ (r ≡ addFrom l down free room (now (b .entry)) used e) × (now (b .exit) ≡ afterFrom l down free room (now (b .entry)) used e) ⌝ }
+{
+    if b.len() / 16 < room {
+        return Added::Short;
+    }
+    if room < used {
+        return Added::Short;
+    }
+    insert(l, down, free & (used < room), room, b, used, e)
 }

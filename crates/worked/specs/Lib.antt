@@ -9,3 +9,4 @@ pub mod Fed
 pub mod Writers
 pub mod Indexes
 pub mod Columns
+pub mod SharedRoom

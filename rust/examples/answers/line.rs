@@ -25,7 +25,7 @@ pub enum Field {
 }
 
 /// Every word with its fields.
-pub const WORDS: [(&[u8], &[Field]); 44] = [
+pub const WORDS: [(&[u8], &[Field]); 45] = [
     (b"ber", &[Field::Bytes]),
     (b"walk", &[Field::End, Field::Bytes]),
     (b"step", &[Field::End, Field::Number, Field::Bytes]),
@@ -70,15 +70,16 @@ pub const WORDS: [(&[u8], &[Field]); 44] = [
     (b"fedend", &[Field::End, Field::Digits, Field::Bytes]),
     (b"index", &[Field::Coding, Field::Number, Field::Script]),
     (b"turn", &[Field::Coding, Field::Number, Field::Bytes]),
+    (b"shared", &[Field::Coding, Field::Number, Field::Number, Field::Number, Field::Script]),
 ];
 
 /// The most fields that a word has.
-const MOST: usize = 4;
+const MOST: usize = 5;
 
 /// A case. Numbers that its word has no field for are 0; a label, a list and bytes are empty.
 pub struct Case<'a> {
     pub word: &'static [u8],
-    pub numbers: [usize; 3],
+    pub numbers: [usize; 4],
     pub label: [u8; 16],
     pub list: Vec<u64>,
     pub bytes: &'a [u8],
@@ -111,7 +112,7 @@ pub fn parse<'a>(line: &[u8], room: &'a mut Vec<u8>) -> Option<Case<'a>> {
             _ => {}
         }
     }
-    let mut numbers = [0; 3];
+    let mut numbers = [0; 4];
     let texts = fields.iter().zip(texts).filter(|(field, _)| matches!(field, Field::End | Field::Number | Field::Coding));
     for (number, (field, text)) in numbers.iter_mut().zip(texts) {
         *number = number_of(*field, text, room.len())?;

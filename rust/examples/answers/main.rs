@@ -55,7 +55,7 @@ fn answer(out: &mut Text, line: &[u8], bytes: &mut Vec<u8>) {
 
 /// Puts the answer to a case.
 fn reply(out: &mut Text, case: &Case) -> std::result::Result<(), Refusal> {
-    let (s, [a, b, c]) = (case.bytes, case.numbers);
+    let (s, [a, b, c, d]) = (case.bytes, case.numbers);
     match case.word {
         b"ber" => walk::ber(out, s),
         b"walk" => walk::walk(out, s, a)?,
@@ -101,6 +101,7 @@ fn reply(out: &mut Text, case: &Case) -> std::result::Result<(), Refusal> {
         b"fedend" => fed::fed(out, Feeding::end(a), &case.list, s),
         b"index" => index::index(out, s, a == 1, b),
         b"turn" => index::turn(out, s, a == 1, b)?,
+        b"shared" => index::shared(out, s, a == 1, b, [c, d])?,
         _ => unreachable!("the words of line::WORDS are all here"),
     }
     Ok(())
@@ -232,6 +233,18 @@ mod tests {
     }
 
     #[test]
+    fn scripts_over_a_shared_room() {
+        let script = "o:0,o:0,a:1:0:0:0:0,a:2:0:1:0:0,a:0:0:1:0:0,a:0:17:1:0:0,a:0:34:1:0:0,o:1,a:1:0:1:0:0,a:1:17:1:0:0,\
+            a:1:34:1:0:0,c:0,a:1:34:1:0:0,a:1:51:1:0:0,o:0,a:0:0:1:0:0";
+        let answers = "ok;refused 19;refused 19;refused 19;ok;ok;refused 18;ok;ok;ok;refused 18;ok;ok;refused 18;ok;ok;";
+        for columns in [0, 1] {
+            assert_eq!(answered(&format!("shared {columns} 64 1 2 {script}")), answers);
+        }
+        assert_eq!(answered("shared 0 64 3 2 o:0"), "refused 20");
+        assert_eq!(answered("shared 0 64 1 2 f:0"), "?");
+    }
+
+    #[test]
     fn every_word_answers_no_bytes() {
         let answers = line::WORDS.map(|(word, fields)| {
             let texts = fields.iter().map(|field| match field {
@@ -246,6 +259,6 @@ mod tests {
         assert_eq!(answers[11..24], [no_values, "", "0,-", "", "", "", "", "", "", "cut", "", "", ""]);
         assert_eq!(answers[24..33], ["|0,0", "|0,0", "-|0,0", "", "", "", "accepted", "refused 7", "refused 6"]);
         assert_eq!(answers[33..40], ["1", "refused 15", "refused 15", "refused 3 4", "refused 3 8", "refused 15", "-"]);
-        assert_eq!(answers[40..], ["|clean", "|clean", "|-", "-"]);
+        assert_eq!(answers[40..], ["|clean", "|clean", "|-", "-", ""]);
     }
 }

@@ -35,7 +35,7 @@ pub fn turned(word: &'static str) -> Cases {
 }
 
 /// Every script of up to 6 operations over two files, an added record behind the last one, with shares of 0 to 3 and rooms of
-/// 0 to 4; at its end each file is asked.
+/// 0 to 4, in both layouts; at its end each file is asked.
 pub fn shared(word: &'static str) -> Cases {
     const LETTERS: [&str; 6] = ["o:0", "o:1", "c:0", "c:1", "a:0", "a:1"];
     let operation = |(turn, at): (usize, &usize)| match LETTERS[*at] {
@@ -44,7 +44,7 @@ pub fn shared(word: &'static str) -> Cases {
     };
     Box::new(sequences(LETTERS.len(), 6).map(move |choice| {
         let list = joined(choice.iter().enumerate().map(operation).chain(["f:0:40".into(), "f:1:60".into()]));
-        let numbers = (0..5 * 4 * 4).map(|number| vec![number % 2, 16 * (number / 16), number / 4 % 4, number % 4]);
+        let numbers = (0..2 * 5 * 4 * 4).map(|number| vec![number / 80, 16 * (number / 16 % 5), number / 4 % 4, number % 4]);
         numbers.map(|numbers| Case { word, numbers, list: list.clone(), ..Case::default() }).collect()
     }))
 }

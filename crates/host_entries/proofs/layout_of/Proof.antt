@@ -1,8 +1,8 @@
--- `host_index::layout_of` meets its contract.
+-- `host_entries::layout_of` meets its contract.
 use mathlib.Core.Path.{refl}
-use Rattle.host_index.specs.Places.{layoutOf}
-use Rattle.host_index.proofs.layout_of.Statement.{statement}
-use Rattle.host_index.proofs.layout_of.Tie as tie
+use Rattle.host_entries.specs.Entries.{layoutOf}
+use Rattle.host_entries.proofs.layout_of.Statement.{statement}
+use Rattle.host_entries.proofs.layout_of.Tie as tie
 
 returns : tie.Need-returns
 unfolding layoutOf

@@ -1,9 +1,9 @@
--- `host_index::entry_of` reads the four places.
+-- `host_entries::entry_of` reads the four places.
 use mathlib.Core.Path.{refl}
-use Rattle.host_index.specs.Places.{entryOf}
+use Rattle.host_entries.specs.Entries.{entryOf}
 use borrow.Author.Needs.{needs}
-use Rattle.host_index.proofs.entry_of.Statement.{statement}
-use Rattle.host_index.proofs.entry_of.Tie as tie
+use Rattle.host_entries.proofs.entry_of.Statement.{statement}
+use Rattle.host_entries.proofs.entry_of.Tie as tie
 
 element-copy-out-start : tie.Need-element-copy-out-start
 element-copy-out-start c = search needs

@@ -1,0 +1,5 @@
+pub mod Rooms
+pub mod Keeps
+pub mod Sees
+pub mod Layouts
+pub mod Shares
