@@ -355,6 +355,7 @@ mod tests {
             Refusal::PastLimit,
             Refusal::NoRoom { needed: 7 },
             Refusal::ItemPastSet,
+            Refusal::Closed,
             Refusal::Depth,
             Refusal::PackSize,
             Refusal::PackLabel,
@@ -371,8 +372,8 @@ mod tests {
             Refusal::File,
             Refusal::Shares,
         ];
-        assert_eq!(all.map(Refusal::number), [1, 2, 3, 4, 6, 7, 8, 9, 10, 11, 12, 13, 14, 15, 16, 17, 18, 19, 20]);
-        assert_eq!(all[8..13].iter().map(|refusal| refusal.place()).collect::<Vec<_>>(), [1, 2, 3, 4, 5].map(Some));
+        assert_eq!(all.map(Refusal::number), [1, 2, 3, 4, 5, 6, 7, 8, 9, 10, 11, 12, 13, 14, 15, 16, 17, 18, 19, 20]);
+        assert_eq!(all[9..14].iter().map(|refusal| refusal.place()).collect::<Vec<_>>(), [1, 2, 3, 4, 5].map(Some));
         assert_eq!(all[2].to_string(), "7 bytes of room are needed");
     }
 }
