@@ -396,9 +396,57 @@ uint32_t brine_sony_step(const uint8_t *s, size_t s_len, size_t end, size_t at, 
                          uint64_t out[BRINE_ELEMENT_PLACES]);
 uint32_t brine_arri_step(const uint8_t *s, size_t s_len, size_t end, size_t at, size_t since, uint64_t number,
                          uint64_t out[BRINE_ELEMENT_PLACES]);
+/* The arriving forms, Sony's and ARRI's: the next frame that no later byte, within the limit, can unsay. An over-long element that has
+ * not fully arrived is not yet a frame. out is the same; BRINE_NOTHING: waiting, and the step is to be made again from the next cursor
+ * and number once more bytes have arrived.
+ * Status: BRINE_DONE, BRINE_PAST_LIMIT. */
+uint32_t brine_sony_arrive(const uint8_t *a, size_t a_len, size_t limit, size_t at, size_t since, uint64_t number,
+                           uint64_t out[BRINE_ELEMENT_PLACES]);
+uint32_t brine_arri_arrive(const uint8_t *a, size_t a_len, size_t limit, size_t at, size_t since, uint64_t number,
+                           uint64_t out[BRINE_ELEMENT_PLACES]);
 /* Canon's is Sony's, and gives the values of Canon's two labels besides: found is BRINE_GIVEN, the number 0. */
 uint32_t brine_canon_step(const uint8_t *s, size_t s_len, size_t end, size_t at, size_t since, uint64_t number,
                           uint64_t out[BRINE_ELEMENT_PLACES]);
+
+/* A fed frame walk, Sony's or ARRI's, never has the whole file, as a fed walk of records has not (brine_feed): the host lends a state
+ * and feeds the file's bytes in pieces of any length. The frames that come of them are those of the arriving form.
+ * After an over-long frame walking goes on at its value's place, and so the bytes from there on are fed again, the same ones. Until
+ * they have come again up to where bytes had come before, the list is a beginning of the arriving form's, and closing is refused. */
+#define BRINE_STATE_FRAMES 13
+
+/* Open a walk of at most `limit` bytes, or of exactly `end`, whose first frame has the number `first`. Status: BRINE_DONE. */
+uint32_t brine_fed_sony_limit(size_t limit, uint64_t first, uint64_t state[BRINE_STATE_FRAMES]);
+uint32_t brine_fed_sony_end(size_t end, uint64_t first, uint64_t state[BRINE_STATE_FRAMES]);
+uint32_t brine_fed_arri_limit(size_t limit, uint64_t first, uint64_t state[BRINE_STATE_FRAMES]);
+uint32_t brine_fed_arri_end(size_t end, uint64_t first, uint64_t state[BRINE_STATE_FRAMES]);
+
+/* Feeds a piece. It is taken up to the byte that completes a frame, or all of it; other records are run through.
+ * out: found, bytes taken, frame's number, element's place, value's place, value's length, over-long (1) or not (0), bytes passed before
+ * the element, and the place in the file to feed on from: behind the last byte taken, or the value's place of an over-long one.
+ * Where a frame was found its element's label is written to `label`, which else keeps its contents.
+ * Status: BRINE_DONE; BRINE_CLOSED; BRINE_PAST_LIMIT, and none of the piece is taken. */
+#define BRINE_FRAMED_FOUND 0
+#define BRINE_FRAMED_TAKEN 1
+#define BRINE_FRAMED_NUMBER 2
+#define BRINE_FRAMED_PLACE 3
+#define BRINE_FRAMED_VALUE 4
+#define BRINE_FRAMED_LENGTH 5
+#define BRINE_FRAMED_OVERLONG 6
+#define BRINE_FRAMED_PASSED 7
+#define BRINE_FRAMED_FROM 8
+#define BRINE_FRAMED_PLACES 9
+uint32_t brine_feed_frame(uint64_t state[BRINE_STATE_FRAMES], const uint8_t *piece, size_t piece_len, uint8_t label[16],
+                          uint64_t out[BRINE_FRAMED_PLACES]);
+
+/* Closes a frame walk; it is refused, too, before bytes that are to come again have.
+ * out: as brine_close's, and the next frame's number: a new walk is opened with it, so that its frames count on.
+ * Status: BRINE_DONE, BRINE_CLOSED. */
+#define BRINE_ENDED_SAYS 0
+#define BRINE_ENDED_FROM 1
+#define BRINE_ENDED_REST 2
+#define BRINE_ENDED_NUMBER 3
+#define BRINE_ENDED_PLACES 4
+uint32_t brine_close_frames(uint64_t state[BRINE_STATE_FRAMES], uint64_t out[BRINE_ENDED_PLACES]);
 
 /* ---- Frame values ---------------------------------------------------------------------------------------------------- */
 
@@ -433,7 +481,7 @@ uint32_t brine_canon_step(const uint8_t *s, size_t s_len, size_t end, size_t at,
 uint32_t brine_of_dynamic(const uint8_t *block, size_t block_len, uint64_t kind[BRINE_VALUES], uint64_t bits[BRINE_VALUES]);
 /* By an ALEXA 35's element. */
 uint32_t brine_of_alexa35(const uint8_t *element, size_t element_len, uint64_t kind[BRINE_VALUES], uint64_t bits[BRINE_VALUES]);
-/* Of a frame that brine_arri_step gave: its label decides which of the two. `frame` has the element's place, the value's
+/* Of a frame that brine_arri_step or brine_arri_arrive gave: its label decides which of the two. `frame` has the element's place, the value's
  * place and length, and over-long: of that step's out from BRINE_ELEMENT_PLACE on. Any number but 0 is over-long.
  * out: found. Where nothing is found all values are nothing. */
 uint32_t brine_arri_values(const uint8_t *s, size_t s_len, const uint64_t frame[4], uint64_t out[1], uint64_t kind[BRINE_VALUES],

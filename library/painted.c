@@ -14,7 +14,7 @@
 
 static uint8_t bytes[BYTES], other[BYTES], payload[BYTES], text[6 * BYTES];
 static uint64_t state[BRINE_STATE], records[BRINE_BATCH_PLACES * 4096], out[BRINE_ELEMENT_PLACES], kind[BRINE_VALUES], bits[BRINE_VALUES];
-static uint64_t frame[4], tags[BYTES / 16];
+static uint64_t frames[BRINE_STATE_FRAMES], frame[4], tags[BYTES / 16];
 static const uint64_t fields[5] = {7, 31, 1, 32767, 255};
 static size_t firsts[64], counts[64];
 static int64_t positions[2];
@@ -66,6 +66,26 @@ static void do_line(void) { sink = brine_line(bytes, BYTES, 2, 65535, out); }
 static void do_descriptor(void) { sink = brine_descriptor(bytes, BYTES, kind, bits); }
 static void do_sony_step(void) { sink = brine_sony_step(bytes, BYTES, BYTES, 0, 0, 0, out); }
 static void do_arri_step(void) { sink = brine_arri_step(bytes, BYTES, BYTES, 0, 0, 0, out); }
+static void do_sony_arrive(void) { sink = brine_sony_arrive(bytes, BYTES, BYTES, 0, 0, 0, out); }
+static void do_arri_arrive(void) { sink = brine_arri_arrive(bytes, BYTES, BYTES, 0, 0, 0, out); }
+static void do_fed_sony_limit(void) { sink = brine_fed_sony_limit(SIZE_MAX, 0, frames); }
+static void do_fed_sony_end(void) { sink = brine_fed_sony_end(BYTES, 0, frames); }
+static void do_fed_arri_limit(void) { sink = brine_fed_arri_limit(SIZE_MAX, 0, frames); }
+static void do_fed_arri_end(void) { sink = brine_fed_arri_end(BYTES, 0, frames); }
+static void opened_frames(void)
+{
+    sink = brine_fed_arri_limit(SIZE_MAX, 0, frames) + brine_feed_frame(frames, bytes, 18, text, out);
+}
+static void do_feed_frame(void)
+{
+    opened_frames();
+    sink = brine_feed_frame(frames, bytes + 18, BYTES - 18, text, out);
+}
+static void do_close_frames(void)
+{
+    opened_frames();
+    sink = brine_close_frames(frames, out);
+}
 static void do_canon_step(void) { sink = brine_canon_step(bytes, BYTES, BYTES, 0, 0, 0, out); }
 static void do_of_dynamic(void) { sink = brine_of_dynamic(bytes, 256, kind, bits); }
 static void do_of_alexa35(void) { sink = brine_of_alexa35(bytes, BYTES, kind, bits); }
@@ -108,6 +128,7 @@ static struct {
     CALL(shortest), CALL(put_length), CALL(put_klv), CALL(rewrite), CALL(put_item), CALL(put_primer), CALL(put_pack),
     CALL(group), CALL(index_add), CALL(index_find), CALL(index_columns), CALL(index_rows),
     CALL(shared_set_up), CALL(shared_open), CALL(shared_add), CALL(shared_find), CALL(shared_close),
+    CALL(sony_arrive), CALL(arri_arrive), CALL(fed_sony_limit), CALL(fed_sony_end), CALL(fed_arri_limit), CALL(fed_arri_end), CALL(feed_frame), CALL(close_frames),
 };
 enum { CALLS = sizeof calls / sizeof *calls };
 

@@ -260,10 +260,69 @@ pub fn arri_step(s: &[u8], end: usize, FrameCursor { at, since, number }: FrameC
     answered(status, 0, out)
 }
 
+/// `brine_sony_arrive`.
+pub fn sony_arrive(a: &[u8], limit: usize, FrameCursor { at, since, number }: FrameCursor) -> Result<Framed, Refusal> {
+    let mut out = [0; 10];
+    let status = unsafe { brine_sony_arrive(a.as_ptr(), a.len(), limit, at, since, number, &mut out) };
+    answered(status, 0, out)
+}
+
+/// `brine_arri_arrive`.
+pub fn arri_arrive(a: &[u8], limit: usize, FrameCursor { at, since, number }: FrameCursor) -> Result<Framed, Refusal> {
+    let mut out = [0; 10];
+    let status = unsafe { brine_arri_arrive(a.as_ptr(), a.len(), limit, at, since, number, &mut out) };
+    answered(status, 0, out)
+}
+
 /// `brine_canon_step`.
 pub fn canon_step(s: &[u8], end: usize, FrameCursor { at, since, number }: FrameCursor) -> Result<Framed, Refusal> {
     let mut out = [0; 10];
     let status = unsafe { brine_canon_step(s.as_ptr(), s.len(), end, at, since, number, &mut out) };
+    answered(status, 0, out)
+}
+
+/// The state of a frame walk that is fed.
+pub type FrameState = [u64; 13];
+
+/// `brine_fed_sony_limit`.
+pub fn fed_sony_limit(limit: usize, first: u64) -> FrameState {
+    let mut state = [0; 13];
+    unsafe { brine_fed_sony_limit(limit, first, &mut state) };
+    state
+}
+
+/// `brine_fed_sony_end`.
+pub fn fed_sony_end(end: usize, first: u64) -> FrameState {
+    let mut state = [0; 13];
+    unsafe { brine_fed_sony_end(end, first, &mut state) };
+    state
+}
+
+/// `brine_fed_arri_limit`.
+pub fn fed_arri_limit(limit: usize, first: u64) -> FrameState {
+    let mut state = [0; 13];
+    unsafe { brine_fed_arri_limit(limit, first, &mut state) };
+    state
+}
+
+/// `brine_fed_arri_end`.
+pub fn fed_arri_end(end: usize, first: u64) -> FrameState {
+    let mut state = [0; 13];
+    unsafe { brine_fed_arri_end(end, first, &mut state) };
+    state
+}
+
+/// `brine_feed_frame`: the places, and the element's label.
+pub fn feed_frame(state: &mut FrameState, piece: &[u8]) -> Result<([u64; 9], [u8; 16]), Refusal> {
+    let (mut out, mut label) = ([0; 9], [0; 16]);
+    let status = unsafe { brine_feed_frame(state, piece.as_ptr(), piece.len(), &mut label, &mut out) };
+    answered(status, 0, (out, label))
+}
+
+/// `brine_close_frames`: what closing says, from where on, how much, and the next frame's number.
+pub fn close_frames(state: &mut FrameState) -> Result<[u64; 4], Refusal> {
+    let mut out = [0; 4];
+    let status = unsafe { brine_close_frames(state, &mut out) };
     answered(status, 0, out)
 }
 

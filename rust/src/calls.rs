@@ -36,7 +36,17 @@ unsafe extern "C" {
     fn brine_descriptor(s: *const u8, s_len: usize, kind: &mut [u64; 32], bits: &mut [u64; 32]) -> u32;
     fn brine_sony_step(s: *const u8, s_len: usize, end: usize, at: usize, since: usize, number: u64, out: &mut [u64; 10]) -> u32;
     fn brine_arri_step(s: *const u8, s_len: usize, end: usize, at: usize, since: usize, number: u64, out: &mut [u64; 10]) -> u32;
+    fn brine_sony_arrive(a: *const u8, a_len: usize, limit: usize, at: usize, since: usize, number: u64, out: &mut [u64; 10]) -> u32;
+    fn brine_arri_arrive(a: *const u8, a_len: usize, limit: usize, at: usize, since: usize, number: u64, out: &mut [u64; 10]) -> u32;
     fn brine_canon_step(s: *const u8, s_len: usize, end: usize, at: usize, since: usize, number: u64, out: &mut [u64; 10]) -> u32;
+    fn brine_fed_sony_limit(limit: usize, first: u64, state: &mut [u64; 13]) -> u32;
+    fn brine_fed_sony_end(end: usize, first: u64, state: &mut [u64; 13]) -> u32;
+    fn brine_fed_arri_limit(limit: usize, first: u64, state: &mut [u64; 13]) -> u32;
+    fn brine_fed_arri_end(end: usize, first: u64, state: &mut [u64; 13]) -> u32;
+    fn brine_feed_frame(
+        state: &mut [u64; 13], piece: *const u8, piece_len: usize, label: &mut [u8; 16], out: &mut [u64; 9],
+    ) -> u32;
+    fn brine_close_frames(state: &mut [u64; 13], out: &mut [u64; 4]) -> u32;
     fn brine_of_dynamic(block: *const u8, block_len: usize, kind: &mut [u64; 32], bits: &mut [u64; 32]) -> u32;
     fn brine_of_alexa35(element: *const u8, element_len: usize, kind: &mut [u64; 32], bits: &mut [u64; 32]) -> u32;
     fn brine_arri_values(

@@ -1,7 +1,8 @@
 //! The frames of Sony's, ARRI's and Canon's files: one walk with three labels and longest elements.
 //!
 //! Each element with a camera's label takes a frame number. A longer element than the camera writes is a frame marked
-//! over-long, without values, and the walk goes on inside it.
+//! over-long, without values, and the walk goes on inside it. Sony's and ARRI's frames of bytes that have arrived are listed as far as
+//! no later byte can unsay them.
 //!
 //! ```
 //! use brinethimble::Sony;
@@ -59,28 +60,28 @@ pub struct FrameCursor {
     pub number: u64,
 }
 
-/// A camera's step over a buffer with an end, from a cursor.
+/// A camera's step over a buffer with an end, or over bytes that have arrived with a limit, from a cursor.
 type Step = fn(&[u8], usize, FrameCursor) -> Result<Framed, Refusal>;
 
 /// A camera's walk.
 #[derive(Clone, Debug)]
 struct Walk<'a> {
     s: &'a [u8],
-    end: usize,
+    bound: usize,
     step: Step,
     cursor: FrameCursor,
 }
 
 impl<'a> Walk<'a> {
-    /// The walk from a cursor, refused where every step would be: one at the end finds nothing.
-    fn new(s: &'a [u8], end: usize, step: Step, cursor: FrameCursor) -> Result<Self, Refusal> {
-        step(s, end, FrameCursor { at: end, since: end, number: 0 })?;
-        Ok(Walk { s, end, step, cursor })
+    /// The walk from a cursor, refused where every step would be: one behind the last byte finds nothing.
+    fn new(s: &'a [u8], bound: usize, step: Step, cursor: FrameCursor) -> Result<Self, Refusal> {
+        step(s, bound, FrameCursor { at: s.len(), since: s.len(), number: 0 })?;
+        Ok(Walk { s, bound, step, cursor })
     }
 
     /// What the next step gives.
     fn next(&mut self) -> Option<CanonItem<'a>> {
-        let [found, number, place, value, length, overlong, at, next, passed, since] = (self.step)(self.s, self.end, self.cursor).ok()?;
+        let [found, number, place, value, length, overlong, at, next, passed, since] = (self.step)(self.s, self.bound, self.cursor).ok()?;
         self.cursor = FrameCursor { at: at as usize, since: since as usize, number: next };
         let element = || Record::at(self.s, [place, value, length], passed);
         match found {
@@ -137,6 +138,26 @@ impl<'a> Sony<'a> {
         Walk::new(s, end, boundary::sony_step, cursor).map(Sony)
     }
 
+    /// The frames of bytes that have arrived, within a limit, that no later byte can unsay. After the last one the walk waits at its
+    /// cursor: with more bytes it goes on from there.
+    ///
+    /// ```
+    /// use brinethimble::{FrameCursor, Refusal, Sony};
+    ///
+    /// let label = *b"\x06\x0e\x2b\x34\x01\x02\x01\x01\x0d\x01\x03\x01\x17\x01\x02\x01";
+    /// let file = [&label[..], &[0], &label, &[2, 9, 9]].concat();
+    /// let mut walk = Sony::arriving(&file[..35], 99, FrameCursor::default())?;
+    /// assert_eq!(walk.by_ref().count(), 1);
+    /// assert_eq!(walk.cursor(), FrameCursor { at: 17, since: 17, number: 1 });
+    /// let mut walk = Sony::arriving(&file, 99, walk.cursor())?;
+    /// assert_eq!(walk.next().map(|frame| (frame.number, frame.element.place)), Some((1, 17)));
+    /// assert_eq!(Sony::arriving(&file, 35, walk.cursor()).unwrap_err(), Refusal::PastLimit);
+    /// # Ok::<(), Refusal>(())
+    /// ```
+    pub fn arriving(a: &'a [u8], limit: usize, cursor: FrameCursor) -> Result<Self, Refusal> {
+        Walk::new(a, limit, boundary::sony_arrive, cursor).map(Sony)
+    }
+
     /// Where the walk is.
     ///
     /// ```
@@ -188,6 +209,26 @@ impl<'a> Arri<'a> {
     /// ```
     pub fn from_cursor(s: &'a [u8], end: usize, cursor: FrameCursor) -> Result<Self, Refusal> {
         Walk::new(s, end, boundary::arri_step, cursor).map(Arri)
+    }
+
+    /// The frames of bytes that have arrived, within a limit, that no later byte can unsay. After the last one the walk waits at its
+    /// cursor: with more bytes it goes on from there.
+    ///
+    /// ```
+    /// use brinethimble::{FrameCursor, Refusal, Arri};
+    ///
+    /// let label = *b"\x06\x0e\x2b\x34\x02\x43\x01\x01\x0d\x01\x03\x01\x04\x01\x03\x01";
+    /// let file = [&label[..], &[0], &label, &[2, 9, 9]].concat();
+    /// let mut walk = Arri::arriving(&file[..35], 99, FrameCursor::default())?;
+    /// assert_eq!(walk.by_ref().count(), 1);
+    /// assert_eq!(walk.cursor(), FrameCursor { at: 17, since: 17, number: 1 });
+    /// let mut walk = Arri::arriving(&file, 99, walk.cursor())?;
+    /// assert_eq!(walk.next().map(|frame| (frame.number, frame.element.place)), Some((1, 17)));
+    /// assert_eq!(Arri::arriving(&file, 35, walk.cursor()).unwrap_err(), Refusal::PastLimit);
+    /// # Ok::<(), Refusal>(())
+    /// ```
+    pub fn arriving(a: &'a [u8], limit: usize, cursor: FrameCursor) -> Result<Self, Refusal> {
+        Walk::new(a, limit, boundary::arri_arrive, cursor).map(Arri)
     }
 
     /// Where the walk is.

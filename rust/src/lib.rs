@@ -28,6 +28,7 @@
 //! | the outline of a file, without its values | [`outline`] |
 //! | header part, primer, descriptor, ST 436 | [`tables`] |
 //! | the frames of Sony's, ARRI's and Canon's files | [`frames`] |
+//! | Sony's and ARRI's frames of a file that comes in pieces | [`feeding_frames`] |
 //! | the values of ARRI's frames | [`values`] |
 //! | Canon's camera metadata and sequence info | [`canon`] |
 //! | whole files: a strict gate, the random index pack | [`checks`] |
@@ -41,6 +42,7 @@ mod boundary;
 pub mod canon;
 pub mod checks;
 pub mod feeding;
+pub mod feeding_frames;
 pub mod frames;
 pub mod index;
 pub mod items;
@@ -55,6 +57,7 @@ pub mod write;
 pub use canon::{Camera, Member, Packages, Sequence, Value, camera_metadata, package_metadata, stream_file_sequence_info};
 pub use checks::{Pair, RandomIndex, strict};
 pub use feeding::{Ending, Fed, FedRecord, Feeding, Piece};
+pub use feeding_frames::{FedFrame, FedFrames, FeedingFrames, FramesEnding};
 pub use frames::{Arri, Canon, CanonItem, Frame, FrameCursor, Sony};
 pub use index::{Entry, Index, Layout, SharedIndex};
 pub use items::{Coding, Item, Items, Klvs, klvs, local_items};

@@ -4,5 +4,6 @@ pub mod Stands
 pub mod Pieces
 pub mod Passed
 pub mod Shift
+pub mod Waiting
 pub mod Closing
 pub mod Taking

@@ -24,7 +24,7 @@ use Rattle.fed_lists.proofs.Pieces.{records-append}
 
 -- An answer leaves the place where walking last went on, or tells a record with its count, which ends there. `state` takes a state out
 -- of what goes on
-data Counts {C : Type 0} (state : C → State) (st : State) : ToldAt C (Passed Item) → Type 0 where
+pub data Counts {C : Type 0} (state : C → State) (st : State) : ToldAt C (Passed Item) → Type 0 where
   quiet : (c : C) → state c .known ≡ st .known → state c .since ≡ st .since → Counts state st (nothing c)
   refuses : (n : ℕ) (c : C) → state c .known ≡ st .known → state c .since ≡ st .since → Counts state st (refused n c)
   counts : (r : Passed Item) (c : C) → state c .known ≡ st .known → r .passed ≡ r .it .klv .at - st .since → state c .since ≡ stepped (r .it) → Counts state st (found r c)
@@ -44,7 +44,7 @@ eat-counts st b = go (eatOf st b) (ate st b)
     go r (labels h k) = quiet _ refl refl
     go r (turns _ h t) = behind-label r t
 
-abbrev of-taken : Taken → State
+abbrev pub of-taken : Taken → State
 of-taken c = c .state
 
 -- from another state with the same place
@@ -53,7 +53,7 @@ from-same s st r e f (quiet c x y) = quiet c (x ∙ e) (y ∙ f)
 from-same s st r e f (refuses n c x y) = refuses n c (x ∙ e) (y ∙ f)
 from-same s st r e f (counts p c x y z) = counts p c (x ∙ e) (y ∙ ap (λ (m : ℕ). p .it .klv .at - m) f) z
 
-eats-counts : (l : List ℕ) (st : State) (n : ℕ) → Counts of-taken st (eats st l n)
+pub eats-counts : (l : List ℕ) (st : State) (n : ℕ) → Counts of-taken st (eats st l n)
 unfolding eats upTo
 eats-counts [] st n = quiet _ refl refl
 eats-counts (b ∷ l) st n = go (eatOf st b) (eat-counts st b) (λ s. eats-counts l s (n + 1))

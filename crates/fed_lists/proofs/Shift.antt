@@ -9,19 +9,20 @@ use Rattle.lengths.specs.declared.Field.{Field}
 use Rattle.lengths.specs.Length.{lengthAt}
 use Rattle.lengths.proofs.Laws.{taken}
 use Rattle.klv.specs.declared.Klv.{Klv}
-use Rattle.klv.specs.Item.{klv, past, Item, item}
+use Rattle.klv.specs.Item.{klv, Item, item}
 use Rattle.walk.specs.declared.Turn.{Turn}
 use Rattle.walk.specs.declared.Turn.the-variants.{Stop, Search, Record}
 use Rattle.walk.specs.Rules.{rules}
-use Rattle.walk.specs.Walk.{stepped}
 use Rattle.walk.proofs.Laws.{rules-moves, rules-record, rule-end, rule-no-key, rule-cut, rule-none, rule-record, rule-late, Rule, at-end, no-key, cut-off, no-length, whole, waits, late, rule}
-use Rattle.records.specs.Records.{finishedFrom, finished}
-use Rattle.records.proofs.Stepping.{stepped-on}
+use Rattle.records.specs.Records.{finishedListBy}
+use Rattle.records.proofs.Lists.{Onward}
 use Rattle.certain.proofs.Held.{fin-stop, fin-search, fin-record}
 use Rattle.fed_bytes.proofs.Moved.{key-moved, length-moved}
 use Rattle.fed_lists.specs.Run.{movedKlv, movedItem}
 
-module _ (v : ℕ) (s : List ℕ) where
+-- `next` is where walking goes on after a record: from one further on, further on
+
+module _ (next : Item → ℕ) (on : Onward next) (moves : (v : ℕ) (i : Item) → next (movedItem v i) ≡ v + next i) (v : ℕ) (s : List ℕ) where
   abbrev d : List ℕ
   d = drop v s
 
@@ -58,36 +59,37 @@ module _ (v : ℕ) (s : List ℕ) where
           rw (rule-late 0 d (length d) p (room h) (key-moved v s p ∙ k) f (at16 ∙ l) (rw len-d (omega arith)) (omega (arith, taken s (v + p + 16) f l)))
           (m-search (p + 16 + f .size) (v + p + 16 + f .size) (omega arith))
 
-  moved-end : (r : Klv) → past (movedKlv v r) ≡ v + past r
-  moved-end r = omega arith
-
   item-d : (k : Klv) → item 16 s (movedKlv v k) ≡ movedItem v (item 16 d k)
   item-d k = ap (λ (l : List ℕ). let i : Item = record { klv = movedKlv v k; key = l } in i) (ap (take 16) (sym (drop-drop (k .at) v s)))
 
-  fin-d : (k p : ℕ) → length s - (v + p) < k → finishedFrom s (length s) (v + p) ≡ map (movedItem v) (finishedFrom d (length d) p)
+  fin-d : (k p : ℕ) → length s - (v + p) < k → finishedListBy next s (length s) (v + p) ≡ map (movedItem v) (finishedListBy next d (length d) p)
   fin-d zero p h = absurd (omega arith)
   fin-d (suc k) p h = go (rules 0 d (length d) p) (rules 0 s (length s) (v + p)) (rules-d p) refl refl (fin-d k)
     where
       Ih : Type 0
-      Ih = (q : ℕ) → length s - (v + q) < k → finishedFrom s (length s) (v + q) ≡ map (movedItem v) (finishedFrom d (length d) q)
+      Ih = (q : ℕ) → length s - (v + q) < k → finishedListBy next s (length s) (v + q) ≡ map (movedItem v) (finishedListBy next d (length d) q)
 
       go : (t u : Turn) → Moved t u → rules 0 d (length d) p ≡ t → rules 0 s (length s) (v + p) ≡ u → Ih
-          → finishedFrom s (length s) (v + p) ≡ map (movedItem v) (finishedFrom d (length d) p)
-      go t u m-stop e f ih = fin-stop stepped stepped-on s (v + p) f ∙ ap (map (movedItem v)) (sym (fin-stop stepped stepped-on d p e))
+          → finishedListBy next s (length s) (v + p) ≡ map (movedItem v) (finishedListBy next d (length d) p)
+      go t u m-stop e f ih = fin-stop next on s (v + p) f ∙ ap (map (movedItem v)) (sym (fin-stop next on d p e))
       go t u (m-search r q z) e f ih =
-          fin-search stepped stepped-on s (v + p) q f ∙ ap (finishedFrom s (length s)) z
-          ∙ ih r (omega (arith, rules-moves 0 s (length s) (v + p) q f)) ∙ ap (map (movedItem v)) (sym (fin-search stepped stepped-on d p r e))
+          fin-search next on s (v + p) q f ∙ ap (finishedListBy next s (length s)) z
+          ∙ ih r (omega (arith, rules-moves 0 s (length s) (v + p) q f)) ∙ ap (map (movedItem v)) (sym (fin-search next on d p r e))
       go t u (m-record r l z) e f ih =
-          fin-record stepped stepped-on s (v + p) l f
-          ∙ ap₂ (λ (i : Item) (n : List Item). i ∷ n) (ap (item 16 s) z ∙ item-d r)
-          (ap (finishedFrom s (length s)) (ap past z ∙ moved-end r) ∙ ih (past r) (omega (arith, ends-later r l z f)))
-          ∙ ap (map (movedItem v)) (sym (fin-record stepped stepped-on d p r e))
+          fin-record next on s (v + p) l f
+          ∙ ap₂ (λ (i : Item) (n : List Item). i ∷ n) same
+          (ap (finishedListBy next s (length s)) (ap next same ∙ moves v (item 16 d r)) ∙ ih (next (item 16 d r)) (omega (arith, later)))
+          ∙ ap (map (movedItem v)) (sym (fin-record next on d p r e))
         where
-          ends-later : (r l : Klv) → l ≡ movedKlv v r → rules 0 s (length s) (v + p) ≡ Record l → (v + p < v + past r) × (v + p < length s)
-          ends-later r l z f =
-              let g = rules-record 0 s (length s) (v + p) l f in
-              let y : past l ≡ v + past r = ap past z ∙ moved-end r in
-              omega arith
+          same : item 16 s l ≡ movedItem v (item 16 d r)
+          same = ap (item 16 s) z ∙ item-d r
 
-  pub from-there : finishedFrom s (length s) v ≡ map (movedItem v) (finished d)
+          -- it goes on behind the place of the key
+          later : (v + p < v + next (item 16 d r)) × (v + p < length s)
+          later =
+              let g = rules-record 0 s (length s) (v + p) l f in
+              let y : l .value ≡ v + r .value = ap (λ (k : Klv). k .value) z in
+              omega (arith, on (item 16 d r))
+
+  pub from-there : finishedListBy next s (length s) v ≡ map (movedItem v) (finishedListBy next d (length d) 0)
   from-there = let z : v + 0 ≡ v = omega arith in rw z at (fin-d (suc (length s - (v + 0))) 0 (omega arith))

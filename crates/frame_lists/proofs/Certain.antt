@@ -17,7 +17,8 @@ use Rattle.frame_walks.specs.Kinds.{kind, isFrame, goesOn}
 use Rattle.frame_walks.specs.Frames.{Carried, carried, Shown, framed, given, frame, counted, asCounted, showingAs, showing}
 use Rattle.frame_walks.proofs.Laws.{goes-onward}
 use Rattle.frame_walks.proofs.Seeks.{since-goes}
-use Rattle.frame_lists.specs.Certain.{waitsFrames, CertainFrames}
+use Rattle.frame_lists.specs.Steps.{waitsFrames}
+use Rattle.frame_lists.specs.Certain.{CertainFrames}
 
 shown-at : Shown → ℕ
 shown-at (framed f) = f .element .at
@@ -36,7 +37,8 @@ module _ (c : Camera) where
       go kinds.Given y = let e : counted k i (given (i .klv)) ≡ b = cc in ap place (sym e)
       go kinds.Other y = absurd (let z : _≡_ {A = ℕ} 0 1 = cc in omega arith)
 
-  steps : (k : Carried) (i : Item) (t : Carried) → showing c k i ≡ passes t → goesOn c i ≡ past (i .klv)
+  -- a record that is not shown is stepped
+  pub steps : (k : Carried) (i : Item) (t : Carried) → showing c k i ≡ passes t → goesOn c i ≡ past (i .klv)
   unfolding showing showingAs goesOn isFrame
   steps k i t = go (kind c i) refl
     where

@@ -10,14 +10,15 @@ use Rattle.steps.specs.Tells.{saying, toldFrom}
 use Rattle.steps.specs.Passed.{Passed}
 use Rattle.steps.proofs.Laws.{Moves, listed}
 use Rattle.klv.specs.Item.{Item}
+use Rattle.walk.specs.declared.Way.the-variants.{Finished}
 use Rattle.records.specs.Records.{finishedListBy}
 use Rattle.frame_walks.specs.declared.Camera.{Camera}
 use Rattle.frame_walks.specs.declared.Kind.{Kind}
 use Rattle.frame_walks.specs.declared.Kind.the-variants as kinds
 use Rattle.frame_walks.specs.Kinds.{kind, goesOn}
-use Rattle.frame_walks.specs.Frames.{carried, Shown, framed, given, frame, counted, after, showingAs, showing}
+use Rattle.frame_walks.specs.Frames.{carried, Shown, framed, given, frame, counted, after, showingAs, showing, recordOn, endOn}
 use Rattle.frame_walks.proofs.Laws.{counts}
-use Rattle.frame_walks.proofs.Seeks.{record-step, record-moves}
+use Rattle.frame_walks.proofs.Seeks.{record-moves}
 use Rattle.frame_lists.specs.Lists.{numbered, shown}
 use Rattle.frame_lists.specs.Steps.{SameFrames}
 
@@ -50,6 +51,7 @@ module _ (c : Camera) where
       go kinds.Other ih = ih n (omega arith)
 
 pub same-frames : SameFrames
+unfolding recordOn endOn
 same-frames c s e h =
-    let f : length (finishedListBy (goesOn c) s e 0) ≤ e - 0 = few-within (record-step c s e) e (record-moves c s e) (suc (e - 0)) 0 (omega arith) in
+    let f : length (finishedListBy (goesOn c) s e 0) ≤ e - 0 = few-within (recordOn c (Finished e) s) e (record-moves c (Finished e) s) (suc (e - 0)) 0 (omega arith) in
     same-shown c (finishedListBy (goesOn c) s e 0) 0 0 (omega (arith, f))

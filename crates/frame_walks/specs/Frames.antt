@@ -1,16 +1,20 @@
--- The frame walks: docs/RULES.md, "Frame walks"; the bytes passed before each frame: "L9. The bytes that were passed".
+-- The frame walks: docs/RULES.md, "Frame walks"; the bytes passed before each frame: "L9. The bytes that were passed"; the arriving
+-- forms: "L13. Certain frames".
 use Prim.Native.Nat.{ℕ, _+_, _-_, _%_, _^_, min}
 use mathlib.Core.List.{List}
-use mathlib.Core.Bool.{cond}
+use mathlib.Core.Bool.{Bool, cond}
 use lib.ListN.{length}
 use lib.Dec.{ltb}
-use Rattle.steps.specs.Told.{ToldAt, refused}
+use Rattle.steps.specs.Told.{Told, ToldAt, refused}
 use Rattle.steps.specs.Tells.{Said, tells, passes}
 use Rattle.steps.specs.Next.{Cursor, cursor, nextFrom}
 use Rattle.steps.specs.Passed.{Passed}
 use Rattle.klv.specs.declared.Klv.{Klv}
 use Rattle.klv.specs.Item.{Item}
-use Rattle.walk.specs.Walk.{finishedBy}
+use Rattle.walk.specs.declared.Way.{Way}
+use Rattle.walk.specs.declared.Way.the-variants.{Finished, Arriving}
+use Rattle.walk.specs.Walk.{finishedBy, arrivingBy}
+use Rattle.walk.specs.Told.{refusal}
 use Rattle.frame_walks.specs.declared.Kind.{Kind}
 use Rattle.frame_walks.specs.declared.Kind.the-variants as kinds
 use Rattle.frame_walks.specs.declared.Camera.{Camera}
@@ -64,19 +68,39 @@ FrameTold = ToldAt (Cursor Carried) (Passed Shown)
 abbrev pub asCounted : Cursor Carried → Cursor Carried
 asCounted k = cursor (k .at) (carried (min (k .carried .since) (k .at)) (k .carried .number))
 
--- the next of what is shown from a cursor on
-abbrev pub next : Camera → List ℕ → ℕ → Cursor Carried → FrameTold
-next c s e k = nextFrom (showing c) (finishedBy (goesOn c) s e) e k
+-- the step to the next record of a camera's walk, finished or arriving, and where its bytes end
+unfoldable pub recordOn : Camera → Way → List ℕ → ℕ → Told Item
+recordOn c (Finished e) s = finishedBy (goesOn c) s e
+recordOn c (Arriving limit) a = arrivingBy (goesOn c) limit a
 
--- 1: the end is larger than the buffer
-unfoldable pub frameStep : Camera → List ℕ → ℕ → Cursor Carried → FrameTold
-frameStep c s e k = cond (ltb (length s) e) (refused 1 k) (next c s e (asCounted k))
+unfoldable pub endOn : Way → List ℕ → ℕ
+endOn (Finished e) s = e
+endOn (Arriving limit) a = length a
+
+-- the next of what is shown from a cursor on
+abbrev pub next : Camera → Way → List ℕ → Cursor Carried → FrameTold
+next c w s k = nextFrom (showing c) (recordOn c w s) (endOn w s) k
+
+-- what is refused: 1, an end larger than the buffer; 2, more arrived bytes than the limit
+unfoldable pub beyond : Way → List ℕ → Bool
+beyond (Finished e) s = ltb (length s) e
+beyond (Arriving limit) a = ltb limit (length a)
+
+unfoldable pub frameStep : Camera → Way → List ℕ → Cursor Carried → FrameTold
+frameStep c w s k = cond (beyond w s) (refused (refusal w) k) (next c w s (asCounted k))
 
 abbrev pub sonyStep : List ℕ → ℕ → Cursor Carried → FrameTold
-sonyStep s e k = frameStep Sony s e k
+sonyStep s e k = frameStep Sony (Finished e) s k
 
 abbrev pub arriStep : List ℕ → ℕ → Cursor Carried → FrameTold
-arriStep s e k = frameStep Arri s e k
+arriStep s e k = frameStep Arri (Finished e) s k
 
 abbrev pub canonStep : List ℕ → ℕ → Cursor Carried → FrameTold
-canonStep s e k = frameStep Canon s e k
+canonStep s e k = frameStep Canon (Finished e) s k
+
+-- the arriving forms, Sony's and ARRI's
+abbrev pub sonyArrive : ℕ → List ℕ → Cursor Carried → FrameTold
+sonyArrive limit a k = frameStep Sony (Arriving limit) a k
+
+abbrev pub arriArrive : ℕ → List ℕ → Cursor Carried → FrameTold
+arriArrive limit a k = frameStep Arri (Arriving limit) a k

@@ -1,5 +1,5 @@
--- What a step's answer says, each case by the number and values of docs/RULES.md, "What a call can say"; k is the cursor
--- that the step was given.
+-- What a step's answer says, each case by the number and values of docs/RULES.md, "What a call can say"; n is the number of the
+-- walk's own refusal, k the cursor that the step was given.
 use Prim.Native.Nat.{ℕ}
 use Rattle.steps.specs.Told.{Told, found, nothing, refused}
 use Rattle.steps.specs.Tells.{Said, tells, passes}
@@ -20,11 +20,11 @@ carriedBy c = carried (c .since) (c .number)
 abbrev pub placeAt : Place → Cursor Carried
 placeAt c = cursor (c .at) (carriedBy c)
 
-unfoldable pub told : Cursor Carried → FrameStep → FrameTold
-told k (step.Frame f n c) = found (record { it = framed f; passed = n }) (placeAt c)
-told k (step.Given v n c) = found (record { it = given v; passed = n }) (placeAt c)
-told k (step.Over c) = nothing (placeAt c)
-told k step.Refused = refused 1 k
+unfoldable pub told : ℕ → Cursor Carried → FrameStep → FrameTold
+told n k (step.Frame f m c) = found (record { it = framed f; passed = m }) (placeAt c)
+told n k (step.Given v m c) = found (record { it = given v; passed = m }) (placeAt c)
+told n k (step.Rests c) = nothing (placeAt c)
+told n k step.Refused = refused n k
 
 -- What the parts of a step say
 
@@ -41,5 +41,5 @@ saidAs q (passes t) = looked.Pass (place q t)
 
 unfoldable pub lookedAs : Camera → Place → Told Item → Looked
 lookedAs c k (found i q) = saidAs q (showing c (carriedBy k) i)
-lookedAs c k (nothing q) = looked.Found (step.Over (place q (carriedBy k)))
+lookedAs c k (nothing q) = looked.Found (step.Rests (place q (carriedBy k)))
 lookedAs c k (refused m q) = looked.Found step.Refused

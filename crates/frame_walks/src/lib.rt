@@ -1,17 +1,19 @@
 // Frame walks: docs/RULES.md, "Frame walks". Each has its own longest element and its own label: the three are one walk with
-// other constants. A longer element takes its frame number and is marked over-long, and the walk goes on from its value.
+// other constants. A longer element takes its frame number and is marked over-long, and the walk goes on from its value. Sony's and
+// ARRI's have arriving forms: "L13. Certain frames".
 ghost use mathlib.Core.Path.{_≡_};
-ghost use lib.ListN.{length};
+ghost use mathlib.Core.Bool.{false};
 ghost use Prim.Native.Nat.{_+_, _-_, _≤_};
-ghost use Rattle.walk.specs.Walk.{finishedBy};
+ghost use Rattle.walk.specs.Told.{refusal};
 ghost use Rattle.klv.specs.Item.{item};
 ghost use Rattle.frame_walks.specs.Kinds.{sonyKind, arriKind, canonKind, kindOf, longestOf, goesOn};
-ghost use Rattle.frame_walks.specs.Frames.{showing, frameStep, sonyStep, arriStep, canonStep};
+ghost use Rattle.frame_walks.specs.Frames.{showing, recordOn, beyond, frameStep, sonyStep, sonyArrive, arriStep, arriArrive, canonStep};
 ghost use Rattle.frame_walks.specs.Told.{carriedBy, placeAt, told, saidAs, lookedAs};
 use klv::Klv;
 use parts::lesser;
 use walk::Cursor;
 use walk::Step;
+use walk::Way;
 
 // What a record is to a frame walk.
 pub enum Kind {
@@ -127,7 +129,7 @@ fn canon_kind(label: &[u8], len: usize) -> Kind
 }
 
 // What a label with a value that long is to a camera's walk.
-fn kind_of(camera: Camera, label: &[u8], len: usize) -> Kind
+pub fn kind_of(camera: Camera, label: &[u8], len: usize) -> Kind
     ensures { λ r. ⌜ r ≡ kindOf camera (now (label .entry)) len ⌝ }
 {
     match camera {
@@ -138,7 +140,7 @@ fn kind_of(camera: Camera, label: &[u8], len: usize) -> Kind
 }
 
 // The longest element that a camera's walk reads.
-fn longest_of(camera: Camera) -> usize
+pub fn longest_of(camera: Camera) -> usize
     ensures { λ r. ⌜ r ≡ longestOf camera ⌝ }
 {
     match camera {
@@ -154,9 +156,9 @@ pub enum FrameStep {
     Frame(FrameElement, usize, Place),
     // A value that is given beside the frames, Canon's alone, likewise.
     Given(Klv, usize, Place),
-    // The walk is over.
-    Over(Place),
-    // The end is larger than the buffer.
+    // Neither: the finished walk is over; the arriving walk waits, and its step is to be made again from this place.
+    Rests(Place),
+    // The end is larger than the buffer, or there are more bytes than the limit.
     Refused,
 }
 
@@ -213,32 +215,42 @@ fn met(s: &[u8], camera: Camera, from: Place, k: Klv, passed: usize, end: usize)
 }
 
 // What a camera's walk makes of the next record from a place on.
-fn look(s: &[u8], end: usize, camera: Camera, from: Place) -> Looked
-    requires { ⌜ end ≤ length (now s) ⌝ }
+fn look(s: &[u8], way: Way, camera: Camera, from: Place) -> Looked
+    requires { ⌜ beyond way (now s) ≡ false ⌝ }
     requires { ⌜ from .since ≤ from .at ⌝ }
-    ensures { λ r. ⌜ r ≡ lookedAs camera from (finishedBy (goesOn camera) (now (s .entry)) end (from .at)) ⌝ }
+    ensures { λ r. ⌜ r ≡ lookedAs camera from (recordOn camera way (now (s .entry)) (from .at)) ⌝ }
 {
     let t = Cursor {
         at: from.at,
         since: from.since,
-    }.step(s, end);
+    }.on(s, way);
     match t {
         Step::Record(k, passed, c) => met(s, camera, from, k, passed, c.at),
-        Step::Rests(c) => Looked::Found(FrameStep::Over(Place {
+        Step::Rests(c) => Looked::Found(FrameStep::Rests(Place {
             at: c.at,
             since: c.since,
             number: from.number,
         })),
-        // Never: the end lies within the buffer.
+        // Never: the end lies within the buffer, or the bytes within the limit.
         Step::Refused => Looked::Found(FrameStep::Refused),
     }
 }
 
-// The step of every frame walk: the next frame, or given value, from a place on and before the end.
-fn seek(s: &[u8], end: usize, camera: Camera, from: Place) -> FrameStep
-    ensures { λ r. ⌜ told (placeAt from) r ≡ frameStep camera (now (s .entry)) end (placeAt from) ⌝ }
+// Whether the end is larger than the buffer, or there are more bytes than the limit.
+fn refuses(s: &[u8], way: Way) -> bool
+    ensures { λ r. ⌜ r ≡ beyond way (now (s .entry)) ⌝ }
 {
-    if s.len() < end {
+    match way {
+        Way::Finished(end) => s.len() < end,
+        Way::Arriving(limit) => limit < s.len(),
+    }
+}
+
+// The step of every frame walk: the next frame, or given value, from a place on.
+fn seek(s: &[u8], way: Way, camera: Camera, from: Place) -> FrameStep
+    ensures { λ r. ⌜ told (refusal way) (placeAt from) r ≡ frameStep camera way (now (s .entry)) (placeAt from) ⌝ }
+{
+    if refuses(s, way) {
         return FrameStep::Refused;
     }
     let mut p = Place {
@@ -247,7 +259,7 @@ fn seek(s: &[u8], end: usize, camera: Camera, from: Place) -> FrameStep
         number: from.number,
     };
     loop {
-        let l = look(s, end, camera, p);
+        let l = look(s, way, camera, p);
         match l {
             Looked::Found(f) => return f,
             Looked::Pass(q) => p = q,
@@ -258,26 +270,40 @@ fn seek(s: &[u8], end: usize, camera: Camera, from: Place) -> FrameStep
 impl Sony {
     // The next frame before the end, with the place to go on from.
     pub fn step(self, s: &[u8], end: usize) -> FrameStep
-        ensures { λ r. ⌜ told (placeAt (self .place)) r ≡ sonyStep (now (s .entry)) end (placeAt (self .place)) ⌝ }
+        ensures { λ r. ⌜ told 1 (placeAt (self .place)) r ≡ sonyStep (now (s .entry)) end (placeAt (self .place)) ⌝ }
     {
-        seek(s, end, Camera::Sony, self.place)
+        seek(s, Way::Finished(end), Camera::Sony, self.place)
+    }
+
+    // The next frame that no later byte, within the limit, can unsay.
+    pub fn arrive(self, a: &[u8], limit: usize) -> FrameStep
+        ensures { λ r. ⌜ told 2 (placeAt (self .place)) r ≡ sonyArrive limit (now (a .entry)) (placeAt (self .place)) ⌝ }
+    {
+        seek(a, Way::Arriving(limit), Camera::Sony, self.place)
     }
 }
 
 impl Arri {
     // The next frame before the end, with the place to go on from.
     pub fn step(self, s: &[u8], end: usize) -> FrameStep
-        ensures { λ r. ⌜ told (placeAt (self .place)) r ≡ arriStep (now (s .entry)) end (placeAt (self .place)) ⌝ }
+        ensures { λ r. ⌜ told 1 (placeAt (self .place)) r ≡ arriStep (now (s .entry)) end (placeAt (self .place)) ⌝ }
     {
-        seek(s, end, Camera::Arri, self.place)
+        seek(s, Way::Finished(end), Camera::Arri, self.place)
+    }
+
+    // The next frame that no later byte, within the limit, can unsay.
+    pub fn arrive(self, a: &[u8], limit: usize) -> FrameStep
+        ensures { λ r. ⌜ told 2 (placeAt (self .place)) r ≡ arriArrive limit (now (a .entry)) (placeAt (self .place)) ⌝ }
+    {
+        seek(a, Way::Arriving(limit), Camera::Arri, self.place)
     }
 }
 
 impl Canon {
     // The next frame or given value before the end, in file order, with the place to go on from.
     pub fn step(self, s: &[u8], end: usize) -> FrameStep
-        ensures { λ r. ⌜ told (placeAt (self .place)) r ≡ canonStep (now (s .entry)) end (placeAt (self .place)) ⌝ }
+        ensures { λ r. ⌜ told 1 (placeAt (self .place)) r ≡ canonStep (now (s .entry)) end (placeAt (self .place)) ⌝ }
     {
-        seek(s, end, Camera::Canon, self.place)
+        seek(s, Way::Finished(end), Camera::Canon, self.place)
     }
 }

@@ -11,7 +11,7 @@ statusOf t = number t
 
 -- a frame: found, its number, its element's place, its value's place and length, over-long or not, the next cursor and
 -- number, the bytes passed before it and the place where walking last went on; a given value has no number and is never over-long;
--- over: the cursor, the number and that place
+-- over, or waiting: the cursor, the number and that place
 unfoldable pub shownPlaces : Shown → ℕ → Cursor Carried → List ℕ
 shownPlaces (framed f) n c =
     1 ∷ f .number ∷ f .element .at ∷ f .element .value ∷ f .element .len ∷ mark (f .overlong) ∷ c .at ∷ c .carried .number ∷ n ∷ c .carried .since ∷ []

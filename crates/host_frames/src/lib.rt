@@ -1,7 +1,7 @@
 // What a host links of the frame walks: numbers and slices in, a status and lent places out (include/brinethimble.h).
 ghost use mathlib.Core.Path.{_≡_};
 ghost use Rattle.steps.specs.Next.{Cursor, cursor};
-ghost use Rattle.frame_walks.specs.Frames.{Carried, carried, sonyStep, arriStep, canonStep};
+ghost use Rattle.frame_walks.specs.Frames.{Carried, carried, sonyStep, sonyArrive, arriStep, arriArrive, canonStep};
 ghost use Rattle.frame_walks.specs.Told.{told};
 ghost use Rattle.host_frames.specs.Places.{statusOf, placesOf};
 use frame_walks::Arri;
@@ -11,10 +11,10 @@ use frame_walks::Place;
 use frame_walks::Sony;
 use host_numbers::mark;
 
-// Puts what a step found, whatever cursor it was given, and answers its status.
-fn put(t: FrameStep, out: &mut [u64; 10]) -> u32
-    ensures { λ r. ⌜ ((k : Cursor Carried) → r ≡ statusOf (told k t)) ⌝ }
-    ensures { λ r. ⌜ ((k : Cursor Carried) → now (out .exit) ≡ placesOf (told k t) (now (out .entry))) ⌝ }
+// Puts what a step found, whatever cursor it was given, and answers its status, which for a refusal is the walk's own.
+fn put(t: FrameStep, refusal: u32, out: &mut [u64; 10]) -> u32
+    ensures { λ r. ⌜ ((k : Cursor Carried) → r ≡ statusOf (told refusal k t)) ⌝ }
+    ensures { λ r. ⌜ ((k : Cursor Carried) → now (out .exit) ≡ placesOf (told refusal k t) (now (out .entry))) ⌝ }
 {
     match t {
         FrameStep::Frame(f, passed, next) => {
@@ -49,7 +49,7 @@ fn put(t: FrameStep, out: &mut [u64; 10]) -> u32
             ];
             0
         }
-        FrameStep::Over(next) => {
+        FrameStep::Rests(next) => {
             *out = [
                 0,
                 0,
@@ -64,7 +64,7 @@ fn put(t: FrameStep, out: &mut [u64; 10]) -> u32
             ];
             0
         }
-        FrameStep::Refused => 1,
+        FrameStep::Refused => refusal,
     }
 }
 
@@ -83,7 +83,25 @@ pub extern "C" fn brine_sony_step(
 {
     let place = Place { at, since, number };
     let t = Sony { place }.step(s, end);
-    put(t, out)
+    put(t, 1, out)
+}
+
+// A step of Sony's arriving frame walk.
+#[no_mangle]
+pub extern "C" fn brine_sony_arrive(
+    a: &[u8],
+    limit: usize,
+    at: usize,
+    since: usize,
+    number: u64,
+    out: &mut [u64; 10],
+) -> u32
+    ensures { λ r. ⌜ r ≡ statusOf (sonyArrive limit (now (a .entry)) (cursor at (carried since number))) ⌝ }
+    ensures { λ r. ⌜ now (out .exit) ≡ placesOf (sonyArrive limit (now (a .entry)) (cursor at (carried since number))) (now (out .entry)) ⌝ }
+{
+    let place = Place { at, since, number };
+    let t = Sony { place }.arrive(a, limit);
+    put(t, 2, out)
 }
 
 // A step of ARRI's.
@@ -101,7 +119,25 @@ pub extern "C" fn brine_arri_step(
 {
     let place = Place { at, since, number };
     let t = Arri { place }.step(s, end);
-    put(t, out)
+    put(t, 1, out)
+}
+
+// A step of ARRI's arriving frame walk.
+#[no_mangle]
+pub extern "C" fn brine_arri_arrive(
+    a: &[u8],
+    limit: usize,
+    at: usize,
+    since: usize,
+    number: u64,
+    out: &mut [u64; 10],
+) -> u32
+    ensures { λ r. ⌜ r ≡ statusOf (arriArrive limit (now (a .entry)) (cursor at (carried since number))) ⌝ }
+    ensures { λ r. ⌜ now (out .exit) ≡ placesOf (arriArrive limit (now (a .entry)) (cursor at (carried since number))) (now (out .entry)) ⌝ }
+{
+    let place = Place { at, since, number };
+    let t = Arri { place }.arrive(a, limit);
+    put(t, 2, out)
 }
 
 // A step of Canon's, which gives values beside the frames.
@@ -119,5 +155,5 @@ pub extern "C" fn brine_canon_step(
 {
     let place = Place { at, since, number };
     let t = Canon { place }.step(s, end);
-    put(t, out)
+    put(t, 1, out)
 }

@@ -2,6 +2,7 @@ pub mod LastTag
 pub mod Grouping
 pub mod LengthForms
 pub mod Passed
+pub mod CertainFrames
 pub mod StrictGate
 pub mod RandomIndex
 pub mod Outline
@@ -10,3 +11,4 @@ pub mod Writers
 pub mod Indexes
 pub mod Columns
 pub mod SharedRoom
+pub mod FedFrames

@@ -24,7 +24,7 @@ use Rattle.walk.specs.Passed.{passing}
 use Rattle.records.specs.Passed.{spans}
 use Rattle.frame_walks.specs.declared.Camera.the-variants.{Arri}
 use Rattle.frame_walks.specs.Kinds.{arriKind, kindOf, longestOf, isFrame, goesOn}
-use Rattle.frame_walks.specs.Frames.{carried, showingAs, showing, FrameTold, frameStep, arriStep}
+use Rattle.frame_walks.specs.Frames.{carried, showingAs, showing, recordOn, endOn, FrameTold, beyond, frameStep, arriStep}
 use Rattle.worked.specs.Passed.{short, Counts, PastTheCursor, Waits, empty, begun, long, shown, OverLong, Torn}
 
 pub counts : Counts
@@ -57,7 +57,7 @@ no-key : (q : ℕ) → 117 ≤ q → q < 8212 → keyBefore long 8229 q ≡ fals
 unfolding keyBefore keyAt
 no-key q h g = rw (zero-there q h g, and-false)
 
-the-last : searchFrom long 8229 118 ≡ 8212
+pub the-last : searchFrom long 8229 118 ≡ 8212
 unfolding firstBelow first keyBefore keyAt
 the-last = sym (skips (keyBefore long 8229) 8229 118 8094 (omega arith) (λ i h g. no-key i (omega arith) (omega arith)))
 
@@ -82,7 +82,7 @@ abbrev told-by : Walked → FrameTold
 told-by w = onTold (showing Arri) (λ j. nextAtMost (showing Arri) (finishedBy (goesOn Arri) long 8229) 8112 j) (carried 117 2) (finishedAfter (goesOn Arri) long 8229 w)
 
 told-so : arriStep long 8229 (cursor 117 (carried 117 2)) ≡ told-by (walked 0 long 8229 117)
-unfolding frameStep nextFrom nextAtMost finishedBy
+unfolding recordOn endOn beyond frameStep nextFrom nextAtMost finishedBy
 told-so = refl
 
 shown-so : told-by (Found (short 8212 8229 0)) ≡ shown 2 (short 8212 8229 0) false 8095 8229
@@ -90,7 +90,7 @@ unfolding finishedAfter onSaid onTold firstAgree agreeBut arriKind kindOf longes
 shown-so = refl
 
 pub over-long : OverLong
-unfolding numberAt boundOf shortestOf heldAt lengthBy lengthAt keyAt keyBefore first firstBelow byValue byLength rules onTurn turnsAtMost walked finishedAfter finishedBy onSaid onTold nextAtMost nextFrom firstAgree agreeBut arriKind kindOf longestOf isFrame goesOn showingAs showing frameStep
+unfolding numberAt boundOf shortestOf heldAt lengthBy lengthAt keyAt keyBefore first firstBelow byValue byLength rules onTurn turnsAtMost walked finishedAfter finishedBy onSaid onTold nextAtMost nextFrom firstAgree agreeBut arriKind kindOf longestOf isFrame goesOn showingAs showing recordOn endOn beyond frameStep
 over-long = (refl, refl, told-so ∙ ap told-by (turns-away ∙ searched ∙ there) ∙ shown-so)
 
 pub torn : Torn

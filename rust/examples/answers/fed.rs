@@ -5,7 +5,7 @@ use brinethimble::{Ending, FedRecord, Feeding, Refusal};
 use crate::text::Text;
 
 /// The pieces that a cut makes of bytes: as long as its numbers say, in turn and again from the first; all 0 is one piece.
-fn pieces<'a>(cut: &[u64], bytes: &'a [u8]) -> Vec<&'a [u8]> {
+pub fn pieces<'a>(cut: &[u64], bytes: &'a [u8]) -> Vec<&'a [u8]> {
     if cut.iter().all(|size| *size == 0) {
         return vec![bytes];
     }

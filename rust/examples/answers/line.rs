@@ -25,7 +25,7 @@ pub enum Field {
 }
 
 /// Every word with its fields.
-pub const WORDS: [(&[u8], &[Field]); 45] = [
+pub const WORDS: [(&[u8], &[Field]); 49] = [
     (b"ber", &[Field::Bytes]),
     (b"walk", &[Field::End, Field::Bytes]),
     (b"step", &[Field::End, Field::Number, Field::Bytes]),
@@ -71,6 +71,10 @@ pub const WORDS: [(&[u8], &[Field]); 45] = [
     (b"index", &[Field::Coding, Field::Number, Field::Script]),
     (b"turn", &[Field::Coding, Field::Number, Field::Bytes]),
     (b"shared", &[Field::Coding, Field::Number, Field::Number, Field::Number, Field::Script]),
+    (b"sonyarrive", &[Field::Number, Field::Bytes]),
+    (b"arriarrive", &[Field::Number, Field::Bytes]),
+    (b"fedsony", &[Field::Number, Field::Digits, Field::Bytes]),
+    (b"fedarri", &[Field::Number, Field::Digits, Field::Bytes]),
 ];
 
 /// The most fields that a word has.

@@ -3,6 +3,7 @@
 
 mod arri;
 mod canon;
+mod certain;
 mod checks;
 mod fed;
 mod forms;
@@ -17,7 +18,7 @@ mod written;
 
 use std::io::{BufRead, BufReader, BufWriter, Result, Write, stdin, stdout};
 
-use brinethimble::{Cursor, Feeding, Refusal};
+use brinethimble::{Cursor, Feeding, FeedingFrames, Refusal};
 use line::Case;
 use text::Text;
 
@@ -102,6 +103,10 @@ fn reply(out: &mut Text, case: &Case) -> std::result::Result<(), Refusal> {
         b"index" => index::index(out, s, a == 1, b),
         b"turn" => index::turn(out, s, a == 1, b)?,
         b"shared" => index::shared(out, s, a == 1, b, [c, d])?,
+        b"sonyarrive" => certain::sony(out, s, a)?,
+        b"arriarrive" => certain::arri(out, s, a)?,
+        b"fedsony" => certain::fed(out, FeedingFrames::sony_limit(a, 0), &case.list, s),
+        b"fedarri" => certain::fed(out, FeedingFrames::arri_limit(a, 0), &case.list, s),
         _ => unreachable!("the words of line::WORDS are all here"),
     }
     Ok(())
@@ -167,6 +172,26 @@ mod tests {
         assert_eq!(answered("passsony n 00060e2b34010201010d0103011701020102aabb"), "0,1,18,2,,1;");
         let given = "060e2b34024301010d01030104010203";
         assert_eq!(answered(&format!("passcanon n 00{given}02aabb")), format!("-,1,{given},18,2,1;"));
+    }
+
+    #[test]
+    fn frames_are_listed_as_far_as_they_are_certain() {
+        let ancillary = "060e2b34010201010d01030117010201";
+        assert_eq!(answered("sonyarrive 0 00"), "refused 2");
+        assert_eq!(answered(&format!("sonyarrive 22 {ancillary}05aabb")), "");
+        assert_eq!(answered(&format!("sonyarrive 22 00{ancillary}02aabb")), "0,1,18,2,,1;");
+        assert_eq!(answered(&format!("sonyarrive 99 {ancillary}20{ancillary}00")), "");
+        assert_eq!(answered(&format!("passsony n {ancillary}20{ancillary}00")), "0,17,34,0,,17;");
+        let (long, picture) = ("060e2b34010201010d01030117010f00822001", "060e2b34024301010d01030104010301");
+        let file = format!("{long}{}{picture}00{}", "00".repeat(81), "00".repeat(8095));
+        assert_eq!(answered(&format!("arriarrive 8211 {}", &file[..16000])), "0,100,117,0,,100;");
+        assert_eq!(answered(&format!("arriarrive 8212 {}", &file[..16000])), "");
+        assert_eq!(answered(&format!("arriarrive 8212 {file}")), "0,0,19,8193,o,0;1,100,117,0,,81;");
+        for cut in ["0", "9", "98765"] {
+            assert_eq!(answered(&format!("fedarri 9000 {cut} {file}")), "0,0,19,8193,o,0;1,100,117,0,,81;|clean");
+        }
+        assert_eq!(answered(&format!("fedarri 9000 9 {}", &file[..2 * 8211])), "|again 19 8192");
+        assert_eq!(answered(&format!("fedarri 8000 0 {file}")), "|refused 2");
     }
 
     #[test]
@@ -259,6 +284,6 @@ mod tests {
         assert_eq!(answers[11..24], [no_values, "", "0,-", "", "", "", "", "", "", "cut", "", "", ""]);
         assert_eq!(answers[24..33], ["|0,0", "|0,0", "-|0,0", "", "", "", "accepted", "refused 7", "refused 6"]);
         assert_eq!(answers[33..40], ["1", "refused 15", "refused 15", "refused 3 4", "refused 3 8", "refused 15", "-"]);
-        assert_eq!(answers[40..], ["|clean", "|clean", "|-", "-", ""]);
+        assert_eq!(answers[40..], ["|clean", "|clean", "|-", "-", "", "", "", "|clean", "|clean"]);
     }
 }

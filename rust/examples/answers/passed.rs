@@ -50,7 +50,7 @@ pub fn step(out: &mut Text, s: &[u8], end: usize, cursor: Cursor) -> Result<(), 
 }
 
 /// Puts a frame with the bytes passed before it.
-fn put_frame(out: &mut Text, frame: &Frame) {
+pub fn put_frame(out: &mut Text, frame: &Frame) {
     put_place(out, frame);
     out.number(frame.element.passed as u64).put(";");
 }
