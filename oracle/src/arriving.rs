@@ -1,9 +1,12 @@
 //! Demand 3 tried out: what an arriving walk lists, with its counts, beside the published walk's finished lists of every short
-//! extension. Of records, and by L13 of Sony's and ARRI's frames.
+//! extension. Of records, and by L13 of Sony's and ARRI's frames. The walk is the port's, or the reading of the rules.
+
+use std::io::{Error, Result};
 
 use crate::answer;
 use crate::cases::random::Random;
 use crate::cases::sketch::{LABELS, Sketch, encoded};
+use crate::compare::Port;
 use crate::line::Case;
 
 /// The most bytes that an extension has.
@@ -37,35 +40,53 @@ const TRIED: [Tried; 3] = [
     },
 ];
 
-/// Checks so many buffers of a word: how many extensions were walked, or the first buffer whose lists don't agree.
-pub fn check(word: &str, count: u64, seed: u64) -> Result<u64, String> {
-    let tried = TRIED.iter().find(|tried| tried.arriving == word).ok_or(format!("{word} is not tried"))?;
+/// Checks so many buffers of a word, by the port where one is given: how many extensions were walked, or the first buffer whose lists
+/// don't agree.
+pub fn check(port: Option<&Port>, word: &str, count: u64, seed: u64) -> Result<std::result::Result<u64, String>> {
+    let tried = TRIED.iter().find(|tried| tried.arriving == word).ok_or_else(|| Error::other(format!("{word} is not tried")))?;
+    let cases: Vec<Case> = (0..count).map(|index| tried.case(seed, index)).collect();
+    let answers = match port {
+        Some(port) => port.answers(&cases.iter().map(Case::line).collect::<Vec<_>>())?,
+        None => cases.iter().map(answered).collect(),
+    };
+    if answers.len() != cases.len() {
+        return Err(Error::other(format!("{} answers to {} cases", answers.len(), cases.len())));
+    }
     let mut extensions = 0;
-    for index in 0..count {
-        let mut random = Random::of("arriving", seed, index);
-        let bytes = tried.buffer(&mut random);
-        let limit = bytes.len() + random.between(0, LONGEST);
-        let case = Case { word: tried.arriving, numbers: vec![limit as u64], bytes, ..Case::default() };
-        let arrived = listed(&case);
-        let (common, walked) = tried.common_beginning(&case.bytes, limit);
+    for (case, answer) in cases.iter().zip(&answers) {
+        let (common, walked) = tried.common_beginning(&case.bytes, case.numbers[0] as usize);
         extensions += walked;
+        let arrived = listed(answer);
         if arrived != common {
             let [arrived, common] = [arrived, common].map(|list| list.join(";"));
-            return Err(format!("case: {}\nwalk: {arrived}\ncommon to the finished lists: {common}", case.line()));
+            return Ok(Err(format!("case: {}\nwalk: {arrived}\ncommon to the finished lists: {common}", case.line())));
         }
     }
-    Ok(extensions)
+    Ok(Ok(extensions))
 }
 
-/// What the answer to a case lists.
-fn listed(case: &Case) -> Vec<String> {
+/// The answer to a case by the rules, or by the published walk.
+fn answered(case: &Case) -> String {
     let mut out = String::new();
     answer::put(&mut out, case);
-    let list = out.split('|').next().unwrap_or_default();
+    out
+}
+
+/// What an answer lists.
+fn listed(answer: &str) -> Vec<String> {
+    let list = answer.split('|').next().unwrap_or_default();
     list.split_terminator(';').map(String::from).collect()
 }
 
 impl Tried {
+    /// A buffer, and a limit that leaves room for its extensions.
+    fn case(&self, seed: u64, index: u64) -> Case {
+        let mut random = Random::of("arriving", seed, index);
+        let bytes = self.buffer(&mut random);
+        let limit = bytes.len() + random.between(0, LONGEST);
+        Case { word: self.arriving, numbers: vec![limit as u64], bytes, ..Case::default() }
+    }
+
     /// A buffer that ends in the midst of something, seldom one with an element that is over-long to ARRI.
     fn buffer(&self, random: &mut Random) -> Vec<u8> {
         let mut sketch = Sketch::default();
@@ -107,7 +128,8 @@ impl Tried {
     /// The longest list that the finished lists of all extensions within a limit begin with, and how many there are.
     fn common_beginning(&self, bytes: &[u8], limit: usize) -> (Vec<String>, u64) {
         let finished = |bytes: &[u8]| {
-            listed(&Case { word: self.finished, numbers: vec![bytes.len() as u64], bytes: bytes.to_vec(), ..Case::default() })
+            let case = Case { word: self.finished, numbers: vec![bytes.len() as u64], bytes: bytes.to_vec(), ..Case::default() };
+            listed(&answered(&case))
         };
         let mut common = finished(bytes);
         let mut walked = 1;
@@ -131,7 +153,15 @@ mod tests {
     #[test]
     fn the_arriving_list_is_common_to_all_finished_ones() {
         for tried in &TRIED {
-            assert_eq!(check(tried.arriving, 300, 1).map(|extensions| extensions > 300), Ok(true));
+            let checked = check(None, tried.arriving, 300, 1).expect("a word that is tried");
+            assert_eq!(checked.map(|extensions| extensions > 300), Ok(true));
         }
+    }
+
+    #[test]
+    fn a_port_that_lists_nothing_is_found_out() {
+        let silent = Port(["sed", "-u", "s/.*/|/"].map(String::from).to_vec());
+        let checked = check(Some(&silent), "arriarrive", 300, 1).expect("as many answers as cases");
+        assert!(checked.is_err());
     }
 }

@@ -17,7 +17,7 @@ oracle cuts WORDS FOLDER --answers CMD           the same over these files at ev
 oracle every WORDS --answers CMD                 the same over every small case
 oracle leaves COUNT SEED FOLDER --answers CMD    the port's outlines of files whose leaf bytes are changed
 oracle record WORDS COUNT SEED FOLDER            a sample, as FOLDER/cases.txt and FOLDER/answers.txt
-oracle arriving COUNT SEED [WORD]                an arriving walk beside all short extensions";
+oracle arriving WORD COUNT SEED [--answers CMD]  an arriving walk, the port's or by the rules, beside all short extensions";
 
 fn main() {
     let args: Vec<String> = std::env::args().skip(1).collect();
@@ -32,8 +32,10 @@ fn main() {
         ["cuts", words, folder, "--answers", command] => compare_cuts(words, folder, command),
         ["leaves", count, seed, folder, "--answers", command] => try_leaves(number(count), number(seed), folder, command),
         ["record", words, count, seed, folder] => write_sample(words, number(count), number(seed), folder),
-        ["arriving", count, seed] => arriving_beside_extensions("passarrive", number(count), number(seed)),
-        ["arriving", count, seed, word] => arriving_beside_extensions(word, number(count), number(seed)),
+        ["arriving", word, count, seed] => arriving_beside_extensions(None, word, number(count), number(seed)),
+        ["arriving", word, count, seed, "--answers", command] => {
+            arriving_beside_extensions(Some(port(command)), word, number(count), number(seed))
+        }
         _ => usage(),
     };
     match done {
@@ -153,8 +155,8 @@ fn write_sample(words: &str, count: u64, seed: u64, folder: &str) -> Result<bool
     Ok(true)
 }
 
-fn arriving_beside_extensions(word: &str, count: u64, seed: u64) -> Result<bool> {
-    match arriving::check(word, count, seed) {
+fn arriving_beside_extensions(port: Option<Port>, word: &str, count: u64, seed: u64) -> Result<bool> {
+    match arriving::check(port.as_ref(), word, count, seed)? {
         Ok(extensions) => println!("{word} {count} {seed} no difference, {extensions} extensions"),
         Err(difference) => {
             println!("{difference}");
