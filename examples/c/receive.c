@@ -1,8 +1,8 @@
 /* Receives uploads on a loopback port, several at once, and says records and frames of each as soon as they are certain:
- *   receive PORT LIMIT
+ *   receive PORT LIMIT [spool FOLDER]
  * Port 0 is a free one; `listening PORT BYTES` says which, and how many bytes an upload takes here. LIMIT is the most bytes that
  * an upload may have. An upload is a line with its name (1 to 32 letters, digits, - or _) and then its bytes, up to where the
- * sender closes. upload.h has the lines. */
+ * sender closes. It is stored in FOLDER by its name, or else in a temporary file. upload.h has the lines. */
 #include "net.h"
 #include "upload.h"
 
@@ -16,10 +16,12 @@
 #include <unistd.h>
 
 #define MOST_UPLOADS 64
+/* The most bytes that are read at once. */
+#define PIECE 16384
 /* How long no byte comes before that is said. */
 #define QUIET_MICROSECONDS 200000
 
-static size_t limit;
+static uint64_t limit;
 static atomic_int uploads;
 
 /* Reads the upload's name; false where the first line is none. */
@@ -41,26 +43,24 @@ static bool read_id(int from, char id[LONGEST_ID + 1])
     return false;
 }
 
-/* Takes an upload's bytes up to where the sender closes; false where it is given up. */
-static bool take_all(int from, struct upload *u)
+/* Takes an upload's bytes up to where the sender closes; says why it is given up, or NULL. */
+static const char *take_all(int from, struct upload *u)
 {
+    uint8_t piece[PIECE];
     bool quiet = false;
     for (;;) {
-        size_t room;
-        uint8_t *piece = upload_room(u, &room);
-        ssize_t n = recv(from, piece, room, 0);
-        if (n == 0)
-            return true;
+        ssize_t n = recv(from, piece, upload_room(u, sizeof piece), 0);
         if (n > 0) {
+            const char *why = upload_take(u, piece, (size_t)n);
+            if (why != NULL)
+                return why;
             quiet = false;
-            if (!upload_take(u, (size_t)n))
-                return false;
-        } else if (errno == EAGAIN || errno == EWOULDBLOCK) {
+        } else if (n < 0 && (errno == EAGAIN || errno == EWOULDBLOCK)) {
             if (!quiet)
                 upload_waits(u);
             quiet = true;
-        } else if (errno != EINTR) {
-            return true; /* a connection that broke is one that closed */
+        } else if (n == 0 || errno != EINTR) {
+            return upload_finish(u); /* a connection that broke is one that closed */
         }
     }
 }
@@ -73,10 +73,13 @@ static void *receive(void *connection)
     char id[LONGEST_ID + 1];
     struct upload u;
     if (read_id(from, id)) {
-        upload_start(&u, id, limit);
         setsockopt(from, SOL_SOCKET, SO_RCVTIMEO, &quiet, sizeof quiet);
-        if (take_all(from, &u))
-            upload_finish(&u);
+        const char *why = upload_start(&u, id, limit);
+        if (why == NULL)
+            why = take_all(from, &u);
+        if (why != NULL)
+            printf("%s refused %s\n", id, why);
+        upload_drop(&u);
     }
     atomic_fetch_sub(&uploads, 1); /* before the sender can know that its upload is over */
     close(from);
@@ -107,20 +110,20 @@ static int listen_on(uint64_t port)
     if (bind(listener, (struct sockaddr *)&here, sizeof here) != 0 || listen(listener, MOST_UPLOADS) != 0 ||
         getsockname(listener, (struct sockaddr *)&here, &length) != 0)
         return -1;
-    printf("listening %u %zu\n", ntohs(here.sin_port), sizeof(struct upload));
+    printf("listening %u %zu\n", ntohs(here.sin_port), sizeof(struct upload) + PIECE);
     return listener;
 }
 
 int main(int argc, char **argv)
 {
-    uint64_t port, most;
-    if (argc != 3 || !number(argv[1], 65535, &port) || !number(argv[2], SIZE_MAX, &most)) {
-        fprintf(stderr, "receive PORT LIMIT\n");
+    uint64_t port;
+    bool spooled = argc == 5 && strcmp(argv[3], "spool") == 0;
+    if ((argc != 3 && !spooled) || !number(argv[1], 65535, &port) || !number(argv[2], SIZE_MAX, &limit)) {
+        fprintf(stderr, "receive PORT LIMIT [spool FOLDER]\n");
         return 1;
     }
-    limit = most;
     setvbuf(stdout, NULL, _IOLBF, 0);
-    int listener = listen_on(port);
+    int listener = stored_in(spooled ? argv[4] : NULL) ? listen_on(port) : -1;
     if (listener < 0) {
         perror("receive");
         return 1;

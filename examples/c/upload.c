@@ -1,160 +1,245 @@
 #include "upload.h"
+#include "tell.h"
 
 #include <inttypes.h>
 #include <stdio.h>
-#include <string.h>
 
-#define PAYLOAD_ROOM 4096
+#define WINDOW 1048576
+#define MANY 16
 
-/* ---- What is told of a frame ----------------------------------------------------------------------------------------- */
-
-/* Tells how long the payload of a Sony frame is; what there is no room for is refused with the length that it needs. */
-static void tell_payload(const uint8_t *element, size_t value, size_t length)
-{
-    uint8_t payload[PAYLOAD_ROOM];
-    uint64_t needed;
-    uint32_t status = brine_payload(element + value, length, payload, sizeof payload, &needed);
-    printf(" payload %" PRIu64 "%s", needed, status == BRINE_NO_ROOM ? " refused 3" : "");
-}
-
-/* Tells a value that is there by what it is. */
-static void tell_value(const char *name, uint64_t kind, uint64_t bits)
-{
-    switch (kind) {
-    case BRINE_KIND_F32: printf(" %s %.3f", name, brine_float(bits)); break;
-    case BRINE_KIND_F64: printf(" %s %.3f", name, brine_double(bits)); break;
-    case BRINE_KIND_WHOLE: printf(" %s %" PRIu64, name, bits); break;
-    case BRINE_KIND_LINEAR: printf(" linear-%s %" PRIu64, name, bits); break;
-    case BRINE_KIND_INFINITY: printf(" %s infinity", name); break;
-    }
-}
-
-/* Tells the lens, focus, exposure and tilt of an ARRI frame, what there is of them. */
-static void tell_values(const uint8_t *element, size_t value, size_t length)
-{
-    static const char *const names[BRINE_VALUES] = {
-        [BRINE_FRAME_FOCAL_LENGTH] = "focal", [BRINE_FRAME_FOCUS_DISTANCE] = "focus", [BRINE_FRAME_T_STOP] = "stop",
-        [BRINE_FRAME_EXPOSURE_TIME] = "exposure", [BRINE_FRAME_SHUTTER_ANGLE] = "shutter", [BRINE_FRAME_TILT] = "tilt",
-        [BRINE_FRAME_ROLL] = "roll", [BRINE_FRAME_EXPOSURE_INDEX] = "index", [BRINE_FRAME_WHITE_BALANCE] = "balance",
-    };
-    uint64_t frame[4] = {0, value, length, 0}, found, kind[BRINE_VALUES], bits[BRINE_VALUES];
-    brine_arri_values(element, value + length, frame, &found, kind, bits);
-    if (found == BRINE_NOTHING)
-        printf(" no values");
-    for (int i = 0; i < BRINE_VALUES; i++)
-        if (names[i])
-            tell_value(names[i], kind[i], bits[i]);
-}
-
-/* ---- Frames ---------------------------------------------------------------------------------------------------------- */
-
-/* A camera: its name, its frame walk's step and longest value, and what is told of an element with its value at a place in it. */
+/* A camera: its name, how its walk is opened, and what is told of an element with its value at a place in it. */
 static const struct camera {
     const char *name;
-    uint32_t (*step)(const uint8_t *s, size_t s_len, size_t end, size_t at, size_t since, uint64_t number,
-                     uint64_t out[BRINE_ELEMENT_PLACES]);
-    uint64_t longest;
+    uint32_t (*limit)(size_t limit, uint64_t first, uint64_t state[BRINE_STATE_FRAMES]);
+    uint32_t (*end)(size_t end, uint64_t first, uint64_t state[BRINE_STATE_FRAMES]);
     void (*tell)(const uint8_t *element, size_t value, size_t length);
 } cameras[CAMERAS] = {
-    {"sony", brine_sony_step, 23723672, tell_payload},
-    {"arri", brine_arri_step, 8192, tell_values},
+    {"sony", brine_fed_sony_limit, brine_fed_sony_end, tell_payload},
+    {"arri", brine_fed_arri_limit, brine_fed_arri_end, tell_values},
 };
 
-/* Whether a label is the camera's: its walk takes the label with an empty value for a frame. */
-static bool is_frame(const struct camera *c, const uint8_t label[16])
+/* Why an upload is given up: by the library's number, or since its file cannot be made, written or read. */
+static const char *refused(uint32_t status)
 {
-    uint8_t element[17] = {0};
-    uint64_t out[BRINE_ELEMENT_PLACES];
-    memcpy(element, label, 16);
-    c->step(element, sizeof element, sizeof element, 0, 0, 0, out);
-    return out[BRINE_ELEMENT_FOUND] == BRINE_FOUND;
+    return status == BRINE_PAST_LIMIT ? "2" : "5";
+}
+static const char *const no_storage = "storage";
+
+/* Where to map the file up to from a place: a window's length further. A walk that was fed many times what has arrived gets all the
+ * rest as one piece: it goes by an element's length then, and looks at no byte twice, however many elements lie in each other. */
+static uint64_t mapped_to(const struct upload *u, uint64_t from, uint64_t fed)
+{
+    uint64_t all = u->stored.length;
+    return fed / MANY < all && WINDOW < all - from ? from + WINDOW : all;
 }
 
-/* Says a frame that has just come, in one line though other uploads speak, too. */
-static void say_frame(const struct upload *u, const struct camera *c, uint64_t number, const uint64_t record[BRINE_FED_PLACES])
-{
-    uint64_t place = record[BRINE_FED_PLACE], value = record[BRINE_FED_VALUE], length = record[BRINE_FED_LENGTH];
-    uint64_t size = value - place + length;
-    flockfile(stdout);
-    printf("%s frame %s %" PRIu64 " %" PRIu64 " %" PRIu64 " %" PRIu64 " %" PRIu64, u->id, c->name, number, place, value, length,
-           record[BRINE_FED_PASSED]);
-    if (length > c->longest)
-        printf(" over-long");
-    else if (size > KEPT)
-        printf(" not kept");
-    else
-        c->tell(u->window + u->filled - size, value - place, length);
-    printf("\n");
-    funlockfile(stdout);
-}
+/* ---- Records --------------------------------------------------------------------------------------------------------- */
 
-/* Says a record that has just come, and the frame that it is. */
+/* Says a record that has just come. */
 static void say_record(struct upload *u, const uint8_t label[16], const uint64_t record[BRINE_FED_PLACES])
 {
     char hex[33];
     for (size_t i = 0; i < 16; i++)
         snprintf(hex + 2 * i, 3, "%02x", label[i]);
-    printf("%s record %" PRIu64 " %s %" PRIu64 " %" PRIu64 " %" PRIu64 "\n", u->id, record[BRINE_FED_PLACE], hex,
-           record[BRINE_FED_VALUE], record[BRINE_FED_LENGTH], record[BRINE_FED_PASSED]);
+    printf("%s record %" PRIu64 " %s %" PRIu64 " %" PRIu64 " %" PRIu64 "\n", u->id, u->start + record[BRINE_FED_PLACE], hex,
+           u->start + record[BRINE_FED_VALUE], record[BRINE_FED_LENGTH], record[BRINE_FED_PASSED]);
     u->records++;
-    for (size_t i = 0; i < CAMERAS; i++)
-        if (is_frame(&cameras[i], label))
-            say_frame(u, &cameras[i], u->frames[i]++, record);
 }
 
-/* ---- Bytes that arrive ----------------------------------------------------------------------------------------------- */
-
-void upload_start(struct upload *u, const char *id, size_t limit)
-{
-    u->arrived = u->records = u->filled = 0;
-    memset(u->frames, 0, sizeof u->frames);
-    snprintf(u->id, sizeof u->id, "%s", id);
-    brine_fed_limit(limit, u->walk);
-}
-
-uint8_t *upload_room(struct upload *u, size_t *room)
-{
-    if (u->filled == WINDOW) {
-        memcpy(u->window, u->window + WINDOW - KEPT, KEPT);
-        u->filled = KEPT;
-    }
-    *room = WINDOW - u->filled;
-    return u->window + u->filled;
-}
-
-bool upload_take(struct upload *u, size_t length)
+/* Feeds bytes to the walk of records. */
+static const char *feed_records(struct upload *u, const uint8_t *bytes, size_t length)
 {
     while (length > 0) {
         uint8_t label[16];
         uint64_t record[BRINE_FED_PLACES];
-        uint32_t status = brine_feed(u->walk, u->window + u->filled, length, label, record);
-        if (status != BRINE_DONE) {
-            printf("%s refused %" PRIu32 "\n", u->id, status);
-            return false;
-        }
+        uint32_t status = brine_feed(u->walk, bytes, length, label, record);
+        if (status != BRINE_DONE)
+            return refused(status);
+        bytes += record[BRINE_FED_TAKEN];
         length -= record[BRINE_FED_TAKEN];
-        u->filled += record[BRINE_FED_TAKEN];
-        u->arrived += record[BRINE_FED_TAKEN];
         if (record[BRINE_FED_FOUND] == BRINE_FOUND)
             say_record(u, label, record);
     }
-    return true;
+    return NULL;
+}
+
+/* Closes the walk of records; where a value is not whole a new one goes through what there is of it. */
+static const char *finish_records(struct upload *u)
+{
+    uint64_t out[BRINE_CLOSE_PLACES];
+    const char *why = NULL;
+    brine_close(u->walk, out);
+    if (out[BRINE_CLOSE_SAYS] != BRINE_AGAIN)
+        return NULL;
+    printf("%s again %" PRIu64 " %" PRIu64 "\n", u->id, out[BRINE_CLOSE_FROM], out[BRINE_CLOSE_REST]);
+    brine_fed_end(out[BRINE_CLOSE_REST], u->walk);
+    u->start = out[BRINE_CLOSE_FROM];
+    for (uint64_t at = u->start, to; why == NULL && at < u->stored.length; at = to) {
+        struct part part;
+        to = mapped_to(u, at, 0);
+        if (!stored_map(&u->stored, at, to, &part))
+            return no_storage;
+        why = feed_records(u, part.bytes, part.length);
+        stored_unmap(&part);
+    }
+    return why;
+}
+
+/* ---- Frames ---------------------------------------------------------------------------------------------------------- */
+
+/* Says a frame, in one line though other uploads speak, too; `element` is NULL for one that is over-long. */
+static void say_frame(const struct upload *u, size_t camera, const uint64_t frame[BRINE_FRAMED_PLACES], const uint8_t *element)
+{
+    uint64_t start = u->cameras[camera].start, length = frame[BRINE_FRAMED_LENGTH];
+    uint64_t place = start + frame[BRINE_FRAMED_PLACE], value = start + frame[BRINE_FRAMED_VALUE];
+    flockfile(stdout);
+    printf("%s frame %s %" PRIu64 " %" PRIu64 " %" PRIu64 " %" PRIu64 " %" PRIu64, u->id, cameras[camera].name,
+           frame[BRINE_FRAMED_NUMBER], place, value, length, frame[BRINE_FRAMED_PASSED]);
+    if (element == NULL)
+        printf(" over-long");
+    else
+        cameras[camera].tell(element, value - place, length);
+    printf("\n");
+    funlockfile(stdout);
+}
+
+/* Says a frame that has just come, of which bytes from a place on are lent; one that begins before them is read from the file. */
+static const char *take_frame(struct upload *u, size_t camera, const uint64_t frame[BRINE_FRAMED_PLACES], const uint8_t *bytes,
+                              uint64_t from)
+{
+    struct frames *w = &u->cameras[camera];
+    uint64_t place = w->start + frame[BRINE_FRAMED_PLACE];
+    struct part element;
+    w->count++;
+    if (frame[BRINE_FRAMED_OVERLONG] == 1) {
+        say_frame(u, camera, frame, NULL);
+    } else if (from <= place) {
+        say_frame(u, camera, frame, bytes + (place - from));
+    } else {
+        if (!stored_map(&u->stored, place, w->start + frame[BRINE_FRAMED_VALUE] + frame[BRINE_FRAMED_LENGTH], &element))
+            return no_storage;
+        say_frame(u, camera, frame, element.bytes);
+        stored_unmap(&element);
+    }
+    return NULL;
+}
+
+/* Feeds a camera's walk bytes of the file, from a place up to another, and again those of them that it wants again; where it wants
+ * bytes before them it stops. */
+static const char *feed_frames(struct upload *u, size_t camera, const uint8_t *bytes, uint64_t from, uint64_t to)
+{
+    struct frames *w = &u->cameras[camera];
+    while (from <= w->at && w->at < to) {
+        uint8_t label[16];
+        uint64_t frame[BRINE_FRAMED_PLACES];
+        uint32_t status = brine_feed_frame(w->state, bytes + (w->at - from), to - w->at, label, frame);
+        if (status != BRINE_DONE)
+            return refused(status);
+        w->at += frame[BRINE_FRAMED_TAKEN];
+        w->fed += frame[BRINE_FRAMED_TAKEN];
+        if (frame[BRINE_FRAMED_FOUND] != BRINE_FOUND)
+            continue;
+        w->at = w->start + frame[BRINE_FRAMED_FROM];
+        const char *why = take_frame(u, camera, frame, bytes, from);
+        if (why != NULL)
+            return why;
+    }
+    return NULL;
+}
+
+/* Feeds a camera's walk what it has not had, or wants again, of the stored bytes. */
+static const char *catch_up(struct upload *u, size_t camera)
+{
+    struct frames *w = &u->cameras[camera];
+    const char *why = NULL;
+    while (why == NULL && w->at < u->stored.length) {
+        uint64_t from = w->at, to = mapped_to(u, from, w->fed);
+        struct part part;
+        if (!stored_map(&u->stored, from, to, &part))
+            return no_storage;
+        why = feed_frames(u, camera, part.bytes, from, to);
+        stored_unmap(&part);
+    }
+    return why;
+}
+
+/* Closes a camera's walk; where a value is not whole a new one goes through what there is of it, and counts on. */
+static const char *finish_frames(struct upload *u, size_t camera)
+{
+    struct frames *w = &u->cameras[camera];
+    uint64_t out[BRINE_ENDED_PLACES];
+    brine_close_frames(w->state, out);
+    if (out[BRINE_ENDED_SAYS] != BRINE_AGAIN)
+        return NULL;
+    printf("%s again %s %" PRIu64 " %" PRIu64 "\n", u->id, cameras[camera].name, out[BRINE_ENDED_FROM], out[BRINE_ENDED_REST]);
+    cameras[camera].end(out[BRINE_ENDED_REST], out[BRINE_ENDED_NUMBER], w->state);
+    w->start = w->at = out[BRINE_ENDED_FROM];
+    return catch_up(u, camera);
+}
+
+/* ---- An upload ------------------------------------------------------------------------------------------------------- */
+
+const char *upload_start(struct upload *u, const char *id, uint64_t limit)
+{
+    snprintf(u->id, sizeof u->id, "%s", id);
+    u->limit = limit;
+    u->start = u->records = 0;
+    brine_fed_limit(limit, u->walk);
+    for (size_t i = 0; i < CAMERAS; i++) {
+        u->cameras[i].start = u->cameras[i].at = u->cameras[i].fed = u->cameras[i].count = 0;
+        cameras[i].limit(limit, 0, u->cameras[i].state);
+    }
+    return stored_open(&u->stored, id) ? NULL : no_storage;
+}
+
+size_t upload_room(const struct upload *u, size_t room)
+{
+    uint64_t left = u->limit - u->stored.length;
+    return left < room ? (size_t)left + 1 : room;
+}
+
+const char *upload_take(struct upload *u, const uint8_t *piece, size_t length)
+{
+    const char *why = feed_records(u, piece, length);
+    if (why == NULL && !stored_add(&u->stored, piece, length))
+        why = no_storage;
+    for (size_t i = 0; i < CAMERAS && why == NULL; i++) {
+        why = feed_frames(u, i, piece, u->stored.length - length, u->stored.length);
+        if (why == NULL)
+            why = catch_up(u, i);
+    }
+    return why;
 }
 
 void upload_waits(const struct upload *u)
 {
-    printf("%s waits %" PRIu64 "\n", u->id, u->arrived);
+    printf("%s waits %" PRIu64 "\n", u->id, u->stored.length);
 }
 
-/* ---- The end --------------------------------------------------------------------------------------------------------- */
-
-void upload_finish(struct upload *u)
+/* Says how much was found. */
+static void say_totals(const struct upload *u)
 {
-    uint64_t out[BRINE_CLOSE_PLACES], frames = 0;
-    brine_close(u->walk, out);
-    if (out[BRINE_CLOSE_SAYS] == BRINE_AGAIN)
-        printf("%s again %" PRIu64 " %" PRIu64 "\n", u->id, out[BRINE_CLOSE_FROM], out[BRINE_CLOSE_REST]);
+    flockfile(stdout);
+    printf("%s records %" PRIu64, u->id, u->records);
     for (size_t i = 0; i < CAMERAS; i++)
-        frames += u->frames[i];
-    printf("%s records %" PRIu64 " frames %" PRIu64 "\n", u->id, u->records, frames);
+        printf(" %s %" PRIu64, cameras[i].name, u->cameras[i].count);
+    printf("\n");
+    funlockfile(stdout);
+}
+
+const char *upload_finish(struct upload *u)
+{
+    const char *why = finish_records(u);
+    for (size_t i = 0; i < CAMERAS && why == NULL; i++)
+        why = finish_frames(u, i);
+    if (why == NULL && !stored_keep(&u->stored))
+        why = no_storage;
+    if (why == NULL)
+        say_totals(u);
+    return why;
+}
+
+void upload_drop(struct upload *u)
+{
+    stored_drop(&u->stored);
 }

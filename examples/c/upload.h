@@ -1,50 +1,63 @@
-/* An upload under way: a fed walk over its records, and its last bytes, which have the values of a frame. No more is kept of it,
- * whatever its sender claims. A record with a camera's label is a frame of that camera.
+/* An upload under way: the file that it is stored in, a fed walk over its records, and one over each camera's frames. Where a frame
+ * walk wants bytes again, and for a frame's values, the file is read. No more is kept of an upload, whatever its sender claims.
  *
- * What is said of an upload, a line each, as soon as it is certain:
+ * What is said of an upload, a line each, as soon as it is certain; each walk's lines come in the file's order:
  *   ID record PLACE LABEL VALUE LENGTH PASSED
- *   ID frame sony NUMBER PLACE VALUE LENGTH PASSED, then the payload's length, or over-long, or not kept
+ *   ID frame sony NUMBER PLACE VALUE LENGTH PASSED, then the payload's length, or over-long
  *   ID frame arri NUMBER PLACE VALUE LENGTH PASSED, then the frame's values, or over-long
  *   ID waits ARRIVED
- *   ID refused STATUS
- *   ID again VALUE REST
- *   ID records N frames M
- * PASSED is how many bytes were lost before a record. */
+ *   ID refused WHY
+ * and once the sender has closed:
+ *   ID again VALUE REST, ID again sony VALUE REST, ID again arri VALUE REST
+ *   ID records N sony N arri N
+ * PASSED is how many bytes were lost before a record. Where the sender closed within a value, a walk goes on inside it, says so with
+ * `again`, and counts PASSED anew from VALUE. */
 #ifndef UPLOAD_H
 #define UPLOAD_H
 
 #include "brinethimble.h"
+#include "stored.h"
 
 #define CAMERAS 2
-#define LONGEST_ID 32
-/* So many of the last bytes are always there. ARRI's longest element, label and length included, has at most 8,217. */
-#define KEPT 16384
-#define WINDOW (2 * KEPT)
 
-/* `window` has `filled` bytes, the last that arrived. */
-struct upload {
-    char id[LONGEST_ID + 1];
-    uint64_t walk[BRINE_STATE];
-    uint64_t arrived;
-    uint64_t records;
-    uint64_t frames[CAMERAS];
-    size_t filled;
-    uint8_t window[WINDOW];
+/* A fed frame walk: its state, the place in the file of its place 0, that of the next byte to feed, and how many bytes it was fed. */
+struct frames {
+    uint64_t state[BRINE_STATE_FRAMES];
+    uint64_t start;
+    uint64_t at;
+    uint64_t fed;
+    uint64_t count;
 };
 
+/* `walk` is that of records, and its place 0 is at `start` in the file. */
+struct upload {
+    char id[LONGEST_ID + 1];
+    struct stored stored;
+    uint64_t limit;
+    uint64_t walk[BRINE_STATE];
+    uint64_t start;
+    uint64_t records;
+    struct frames cameras[CAMERAS];
+};
+
+/* What is given up is told as a word: why; NULL where it is not. */
+
 /* Starts an upload of at most `limit` bytes. */
-void upload_start(struct upload *u, const char *id, size_t limit);
+const char *upload_start(struct upload *u, const char *id, uint64_t limit);
 
-/* The room that the next bytes are to be read into; there is some. */
-uint8_t *upload_room(struct upload *u, size_t *room);
+/* How many bytes may be read next into room for so many: never more than one past the limit. */
+size_t upload_room(const struct upload *u, size_t room);
 
-/* Takes bytes that were read into the room, and says what has become certain with them; false where the upload is given up. */
-bool upload_take(struct upload *u, size_t length);
+/* Takes bytes that have come, says what has become certain with them, and stores them; those past the limit are not. */
+const char *upload_take(struct upload *u, const uint8_t *piece, size_t length);
 
 /* Says that no bytes come. */
 void upload_waits(const struct upload *u);
 
-/* Closes the walk, for the sender has closed, and says how much was found. */
-void upload_finish(struct upload *u);
+/* Closes the walks, for the sender has closed, says the rest of the finished lists, and keeps the file. */
+const char *upload_finish(struct upload *u);
+
+/* Lets go of an upload, and of its file if that was not kept. */
+void upload_drop(struct upload *u);
 
 #endif

@@ -1,166 +1,245 @@
-//! An upload under way: a fed walk over its records, and its last bytes, which have the values of a frame. No more is kept of it,
-//! whatever its sender claims. A record with a camera's label is a frame of that camera.
+//! An upload under way: the file that it is stored in, a fed walk over its records, and one over each camera's frames. Where a frame
+//! walk wants bytes again, and for a frame's values, the file is read. No more is kept of an upload, whatever its sender claims.
 //!
-//! What is said of an upload, a line each, as soon as it is certain:
+//! What is said of an upload, a line each, as soon as it is certain; each walk's lines come in the file's order:
 //!
 //! ```text
 //! ID record PLACE LABEL VALUE LENGTH PASSED
-//! ID frame sony NUMBER PLACE VALUE LENGTH PASSED, then the payload's length, or over-long, or not kept
+//! ID frame sony NUMBER PLACE VALUE LENGTH PASSED, then the payload's length, or over-long
 //! ID frame arri NUMBER PLACE VALUE LENGTH PASSED, then the frame's values, or over-long
 //! ID waits ARRIVED
-//! ID refused STATUS
-//! ID again VALUE REST
-//! ID records N frames M
+//! ID refused WHY
 //! ```
 //!
-//! PASSED is how many bytes were lost before a record.
+//! and once the sender has closed:
+//!
+//! ```text
+//! ID again VALUE REST, ID again sony VALUE REST, ID again arri VALUE REST
+//! ID records N sony N arri N
+//! ```
+//!
+//! PASSED is how many bytes were lost before a record. Where the sender closed within a value, a walk goes on inside it, says so with
+//! `again`, and counts PASSED anew from VALUE.
 
-use brinethimble::{Arri, Distance, Ending, FedRecord, Feeding, Frame, Refusal, Sony, TStop, payload_into, values_of};
+use std::io;
+use std::rc::Rc;
 
-/// So many of the last bytes are always there. ARRI's longest element, label and length included, has at most 8,217.
-const KEPT: usize = 16_384;
-const WINDOW: usize = 2 * KEPT;
-const PAYLOAD_ROOM: usize = 4096;
+use brinethimble::{Ending, FedFrame, FedRecord, Feeding, FeedingFrames, FramesEnding, Refusal};
 
-/// A camera: its name, its longest value, the frame that its walk takes an element for, and what is told of that.
+use crate::stored::{Folder, Stored};
+use crate::tell;
+
+const WINDOW: usize = 1 << 20;
+const MANY: u64 = 16;
+
+/// A camera: its name, how its walk is opened, and what is told of an element with its value at a place in it.
 struct Camera {
     name: &'static str,
-    longest: usize,
-    frame: fn(&[u8]) -> Option<Frame<'_>>,
-    tell: fn(&[u8], &Frame) -> String,
+    limit: fn(usize, u64) -> FeedingFrames,
+    end: fn(usize, u64) -> FeedingFrames,
+    tell: fn(&[u8], usize) -> String,
 }
 
-const CAMERAS: [Camera; 2] = [
-    Camera { name: "sony", longest: 23_723_672, frame: |s| Sony::new(s, s.len()).ok()?.next(), tell: tell_payload },
-    Camera { name: "arri", longest: 8_192, frame: |s| Arri::new(s, s.len()).ok()?.next(), tell: tell_values },
+static CAMERAS: [Camera; 2] = [
+    Camera { name: "sony", limit: FeedingFrames::sony_limit, end: FeedingFrames::sony_end, tell: tell::payload },
+    Camera { name: "arri", limit: FeedingFrames::arri_limit, end: FeedingFrames::arri_end, tell: tell::values },
 ];
 
-impl Camera {
-    /// Whether a label is the camera's: its walk takes the label with an empty value for a frame.
-    fn has(&self, label: &[u8; 16]) -> bool {
-        let mut element = [0; 17];
-        element[..16].copy_from_slice(label);
-        (self.frame)(&element).is_some()
+/// Why an upload is given up.
+pub enum Why {
+    /// By the library.
+    Refused(Refusal),
+    /// Its file cannot be written or read.
+    Storage,
+}
+
+impl From<Refusal> for Why {
+    fn from(refusal: Refusal) -> Self {
+        Why::Refused(refusal)
     }
 }
 
-/// How long the payload of a Sony frame is; what there is no room for is refused with the length that it needs.
-fn tell_payload(_: &[u8], frame: &Frame) -> String {
-    match payload_into(frame.element.value, &mut [0; PAYLOAD_ROOM]) {
-        Ok(length) => format!(" payload {length}"),
-        Err(Refusal::NoRoom { needed }) => format!(" payload {needed} refused 3"),
-        Err(refusal) => format!(" refused {}", refusal.number()),
+impl From<io::Error> for Why {
+    fn from(_: io::Error) -> Self {
+        Why::Storage
     }
 }
 
-/// The lens, focus, exposure and tilt of an ARRI frame, what there is of them.
-fn tell_values(element: &[u8], frame: &Frame) -> String {
-    let Some(values) = values_of(element, frame) else { return " no values".into() };
-    let figure = |name, figure: Option<f64>| figure.map(|figure| format!(" {name} {figure:.3}"));
-    let single = |name, single: Option<f32>| figure(name, single.map(f64::from));
-    let whole = |name, whole: Option<u32>| whole.map(|whole| format!(" {name} {whole}"));
-    let focus = values.focus_distance.map(|distance| match distance {
-        Distance::Metres(metres) => format!(" focus {metres:.3}"),
-        Distance::Infinity => " focus infinity".into(),
-    });
-    let stop = values.t_stop.map(|stop| match stop {
-        TStop::Is(stop) => format!(" stop {stop:.3}"),
-        TStop::Linear(number) => format!(" linear-stop {number}"),
-    });
-    let told = [
-        single("focal", values.focal_length),
-        focus,
-        stop,
-        figure("exposure", values.exposure_time),
-        single("shutter", values.shutter_angle),
-        single("tilt", values.tilt_roll.map(|(tilt, _)| tilt)),
-        single("roll", values.tilt_roll.map(|(_, roll)| roll)),
-        whole("index", values.exposure_index),
-        whole("balance", values.white_balance),
-    ];
-    told.into_iter().flatten().collect()
+impl std::fmt::Display for Why {
+    fn fmt(&self, f: &mut std::fmt::Formatter) -> std::fmt::Result {
+        match self {
+            Why::Refused(refusal) => write!(f, "{}", refusal.number()),
+            Why::Storage => write!(f, "storage"),
+        }
+    }
 }
 
-/// An upload. `window` has `filled` bytes, the last that arrived.
-pub struct Upload {
-    id: String,
+/// Where to map the file up to from a place: a window's length further. A walk that was fed many times what has arrived gets all the
+/// rest as one piece: it goes by an element's length then, and looks at no byte twice, however many elements lie in each other.
+fn mapped_to(stored: &Stored, from: usize, fed: u64) -> usize {
+    let all = stored.len();
+    if fed / MANY < all as u64 { all.min(from.saturating_add(WINDOW)) } else { all }
+}
+
+/// A walk over records.
+struct Records {
+    id: Rc<str>,
     walk: Feeding,
-    arrived: usize,
-    records: u64,
-    frames: [u64; CAMERAS.len()],
-    filled: usize,
-    window: [u8; WINDOW],
+    /// The place in the file of the walk's place 0.
+    start: usize,
+    count: u64,
+}
+
+impl Records {
+    /// Feeds bytes, and says the records that are complete with them.
+    fn feed(&mut self, mut bytes: &[u8]) -> Result<(), Why> {
+        while !bytes.is_empty() {
+            let fed = self.walk.feed(bytes)?;
+            bytes = &bytes[fed.taken..];
+            fed.record.iter().for_each(|record| self.say(record));
+        }
+        Ok(())
+    }
+
+    /// Says a record that has just come.
+    fn say(&mut self, record: &FedRecord) {
+        let FedRecord { label, value_length, passed, .. } = record;
+        let (place, value) = (self.start + record.place, self.start + record.value_place);
+        println!("{} record {place} {:032x} {value} {value_length} {passed}", self.id, u128::from_be_bytes(*label));
+        self.count += 1;
+    }
+
+    /// Closes the walk; where a value is not whole a new one goes through what there is of it.
+    fn finish(&mut self, stored: &Stored) -> Result<(), Why> {
+        let Ending::Again { from, rest } = self.walk.close()? else { return Ok(()) };
+        println!("{} again {from} {rest}", self.id);
+        (self.walk, self.start) = (Feeding::end(rest), from);
+        let mut at = from;
+        while at < stored.len() {
+            let to = mapped_to(stored, at, 0);
+            self.feed(&stored.map(at, to)?)?;
+            at = to;
+        }
+        Ok(())
+    }
+}
+
+/// A walk over a camera's frames.
+struct Frames {
+    id: Rc<str>,
+    camera: &'static Camera,
+    walk: FeedingFrames,
+    /// The place in the file of the walk's place 0.
+    start: usize,
+    /// The place in the file of the next byte to feed.
+    at: usize,
+    /// How many bytes it was fed.
+    fed: u64,
+    count: u64,
+}
+
+impl Frames {
+    /// Feeds bytes of the file, from a place on, and again those of them that the walk wants again; where it wants bytes before them it
+    /// stops.
+    fn feed(&mut self, stored: &Stored, bytes: &[u8], from: usize) -> Result<(), Why> {
+        while from <= self.at && self.at < from + bytes.len() {
+            let fed = self.walk.feed(&bytes[self.at - from..])?;
+            self.at += fed.taken;
+            self.fed += fed.taken as u64;
+            if let Some(frame) = fed.frame {
+                self.at = self.start + frame.from;
+                self.take(stored, &frame, bytes, from)?;
+            }
+        }
+        Ok(())
+    }
+
+    /// Feeds what the walk has not had, or wants again, of the stored bytes.
+    fn catch_up(&mut self, stored: &Stored) -> Result<(), Why> {
+        while self.at < stored.len() {
+            let from = self.at;
+            self.feed(stored, &stored.map(from, mapped_to(stored, from, self.fed))?, from)?;
+        }
+        Ok(())
+    }
+
+    /// Says a frame that has just come, of which bytes from a place on are lent; one that begins before them is read from the file.
+    fn take(&mut self, stored: &Stored, frame: &FedFrame, bytes: &[u8], from: usize) -> Result<(), Why> {
+        let (place, value) = (self.start + frame.place, self.start + frame.value_place);
+        let (end, tell) = (value + frame.value_length, self.camera.tell);
+        let told = match frame.overlong {
+            true => " over-long".into(),
+            false if from <= place => tell(&bytes[place - from..end - from], value - place),
+            false => tell(&stored.map(place, end)?, value - place),
+        };
+        self.count += 1;
+        let FedFrame { number, value_length, passed, .. } = frame;
+        println!("{} frame {} {number} {place} {value} {value_length} {passed}{told}", self.id, self.camera.name);
+        Ok(())
+    }
+
+    /// Closes the walk; where a value is not whole a new one goes through what there is of it, and counts on.
+    fn finish(&mut self, stored: &Stored) -> Result<(), Why> {
+        let FramesEnding::Again { from, rest, first } = self.walk.close()? else { return Ok(()) };
+        println!("{} again {} {from} {rest}", self.id, self.camera.name);
+        self.walk = (self.camera.end)(rest, first);
+        (self.start, self.at) = (from, from);
+        self.catch_up(stored)
+    }
+}
+
+/// An upload.
+pub struct Upload {
+    id: Rc<str>,
+    stored: Stored,
+    limit: usize,
+    records: Records,
+    cameras: [Frames; CAMERAS.len()],
 }
 
 impl Upload {
-    /// An upload of at most `limit` bytes.
-    pub fn new(id: String, limit: usize) -> Self {
-        Upload { id, walk: Feeding::limit(limit), arrived: 0, records: 0, frames: [0; 2], filled: 0, window: [0; WINDOW] }
+    /// An upload of at most `limit` bytes, stored in a folder.
+    pub fn new(id: &str, limit: usize, folder: &Folder) -> Result<Self, Why> {
+        let stored = folder.open(id)?;
+        let id: Rc<str> = id.into();
+        let records = Records { id: id.clone(), walk: Feeding::limit(limit), start: 0, count: 0 };
+        let frames =
+            |camera: &'static Camera| Frames { id: id.clone(), camera, walk: (camera.limit)(limit, 0), start: 0, at: 0, fed: 0, count: 0 };
+        let cameras = CAMERAS.each_ref().map(frames);
+        Ok(Upload { id, stored, limit, records, cameras })
     }
 
-    /// The room that the next bytes are to be read into; there is some.
-    pub fn room(&mut self) -> &mut [u8] {
-        if self.filled == WINDOW {
-            self.window.copy_within(WINDOW - KEPT.., 0);
-            self.filled = KEPT;
-        }
-        &mut self.window[self.filled..]
+    /// How many bytes may be read next into room for so many: never more than one past the limit.
+    pub fn room(&self, room: usize) -> usize {
+        room.min((self.limit - self.stored.len()).saturating_add(1))
     }
 
-    /// Takes bytes that were read into the room, and says what has become certain with them; false where the upload is given up.
-    pub fn take(&mut self, length: usize) -> bool {
-        let end = self.filled + length;
-        while self.filled < end {
-            match self.walk.feed(&self.window[self.filled..end]) {
-                Ok(fed) => {
-                    self.filled += fed.taken;
-                    self.arrived += fed.taken;
-                    fed.record.iter().for_each(|record| self.say_record(record));
-                }
-                Err(refusal) => {
-                    println!("{} refused {}", self.id, refusal.number());
-                    return false;
-                }
-            }
+    /// Takes bytes that have come, says what has become certain with them, and stores them; those past the limit are not.
+    pub fn take(&mut self, piece: &[u8]) -> Result<(), Why> {
+        let from = self.stored.len();
+        self.records.feed(piece)?;
+        self.stored.add(piece)?;
+        for frames in &mut self.cameras {
+            frames.feed(&self.stored, piece, from)?;
+            frames.catch_up(&self.stored)?;
         }
-        true
-    }
-
-    /// Says a record that has just come, and the frame that it is.
-    fn say_record(&mut self, record: &FedRecord) {
-        let FedRecord { place, label, value_place, value_length, passed, .. } = record;
-        println!("{} record {place} {:032x} {value_place} {value_length} {passed}", self.id, u128::from_be_bytes(*label));
-        self.records += 1;
-        for (i, camera) in CAMERAS.iter().enumerate().filter(|(_, camera)| camera.has(label)) {
-            let told = self.told(camera, record);
-            println!("{} frame {} {} {place} {value_place} {value_length} {passed}{told}", self.id, camera.name, self.frames[i]);
-            self.frames[i] += 1;
-        }
-    }
-
-    /// What is told of a frame that has just come, besides its places.
-    fn told(&self, camera: &Camera, record: &FedRecord) -> String {
-        let size = record.value_place - record.place + record.value_length;
-        if record.value_length > camera.longest {
-            return " over-long".into();
-        }
-        if size > KEPT {
-            return " not kept".into();
-        }
-        let element = &self.window[self.filled - size..self.filled];
-        (camera.frame)(element).map(|frame| (camera.tell)(element, &frame)).unwrap_or_default()
+        Ok(())
     }
 
     /// Says that no bytes come.
     pub fn say_waits(&self) {
-        println!("{} waits {}", self.id, self.arrived);
+        println!("{} waits {}", self.id, self.stored.len());
     }
 
-    /// Closes the walk, for the sender has closed, and says how much was found.
-    pub fn finish(&mut self) {
-        if let Ok(Ending::Again { from, rest }) = self.walk.close() {
-            println!("{} again {from} {rest}", self.id);
+    /// Closes the walks, for the sender has closed, says the rest of the finished lists, and keeps the file.
+    pub fn finish(&mut self) -> Result<(), Why> {
+        self.records.finish(&self.stored)?;
+        for frames in &mut self.cameras {
+            frames.finish(&self.stored)?;
         }
-        println!("{} records {} frames {}", self.id, self.records, self.frames.iter().sum::<u64>());
+        self.stored.keep()?;
+        let counts: String = self.cameras.iter().map(|frames| format!(" {} {}", frames.camera.name, frames.count)).collect();
+        println!("{} records {}{counts}", self.id, self.records.count);
+        Ok(())
     }
 }
