@@ -27,6 +27,15 @@ extern "C" {
 
 /* ---- The header itself ----------------------------------------------------------------------------------------------- */
 
+/* The version, as CHANGELOG.md names it, and as one number that grows with it. */
+#define BRINE_VERSION_MAJOR 0
+#define BRINE_VERSION_MINOR 1
+#define BRINE_VERSION_PATCH 0
+#define BRINE_VERSION (BRINE_VERSION_MAJOR * 1000000 + BRINE_VERSION_MINOR * 1000 + BRINE_VERSION_PATCH)
+
+/* The version of the library that is linked, as BRINE_VERSION has it: where the two differ, this header is not that library's. */
+uint32_t brine_version(void);
+
 /* Which header this is. A host is built with the header of the library that it links: a call writes as many places as its own
  * header says. In 2 the arrays are longer than in the first one: a length has its form, a record also the bytes that were
  * passed before it, and steps take and hand back the place where walking last went on. */

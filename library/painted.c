@@ -29,6 +29,7 @@ __attribute__((noinline)) static uint32_t nothing(const uint8_t *s, size_t s_len
 }
 
 static void do_nothing(void) { sink = nothing(bytes, BYTES, BYTES, 0, out); }
+static void do_version(void) { sink = brine_version(); }
 static void do_length(void) { sink = brine_length(bytes, BYTES, 16, out); }
 static void do_same_label(void) { sink = brine_same_label(bytes, 16, other, 16); }
 static void do_next_key(void) { sink = brine_next_key(bytes, BYTES, BYTES, 1); }
@@ -120,7 +121,7 @@ static struct {
     void (*call)(void);
     size_t most;
 } calls[] = {
-    CALL(nothing), CALL(length), CALL(same_label), CALL(next_key), CALL(step), CALL(arrive), CALL(records), CALL(arrivals),
+    CALL(nothing), CALL(version), CALL(length), CALL(same_label), CALL(next_key), CALL(step), CALL(arrive), CALL(records), CALL(arrivals),
     CALL(fed_limit), CALL(fed_end), CALL(feed), CALL(feed_records), CALL(close), CALL(tally), CALL(run), CALL(item),
     CALL(outline), CALL(header), CALL(primer), CALL(arri_block), CALL(payload), CALL(line), CALL(descriptor), CALL(sony_step),
     CALL(arri_step), CALL(canon_step), CALL(of_dynamic), CALL(of_alexa35), CALL(arri_values), CALL(package), CALL(camera),

@@ -88,6 +88,11 @@ fn answered<T>(status: u32, told: u64, answer: T) -> Result<T, Refusal> {
     }
 }
 
+/// `brine_version`.
+pub fn version() -> u32 {
+    unsafe { brine_version() }
+}
+
 /// `brine_length`: found, number, bytes, shortest or not.
 pub fn length(s: &[u8], at: usize) -> [u64; 4] {
     let mut out = [0; 4];

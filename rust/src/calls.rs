@@ -1,6 +1,7 @@
 // The library's calls, as include/brinethimble.h declares them; `library/declarations` compares the two with Rattle's own.
 #[rustfmt::skip]
 unsafe extern "C" {
+    fn brine_version() -> u32;
     fn brine_length(s: *const u8, s_len: usize, at: usize, out: &mut [u64; 4]) -> u32;
     fn brine_same_label(a: *const u8, a_len: usize, b: *const u8, b_len: usize) -> bool;
     fn brine_next_key(s: *const u8, s_len: usize, end: usize, from: usize) -> usize;

@@ -21,7 +21,7 @@
 //!
 //! | subject | module |
 //! |---|---|
-//! | labels, lengths, records, refusals | [`record`] |
+//! | labels, lengths, records, refusals, the version | [`record`] |
 //! | the walk over a file, finished or arriving | [`walk`] |
 //! | the walk over a file that comes in pieces | [`feeding`] |
 //! | runs of records and items of sets, inside values | [`items`] |
@@ -62,7 +62,7 @@ pub use frames::{Arri, Canon, CanonItem, Frame, FrameCursor, Sony};
 pub use index::{Entry, Index, Layout, SharedIndex};
 pub use items::{Coding, Item, Items, Klvs, klvs, local_items};
 pub use outline::outline_into;
-pub use record::{Length, Record, Refusal, next_key, read_ber, same_label};
+pub use record::{Length, Record, Refusal, next_key, read_ber, same_label, version};
 pub use tables::{Area, Descriptor, Lines, Primer, dynamic_metadata, header_partition_metadata, lines, payload_into};
 pub use values::{Distance, Encoders, FrameValues, TStop, of_alexa35, of_dynamic, values_of};
 pub use walk::{Arriving, Cursor, Filled, Listed, Records, Tally, next_klv, records_into, tally};

@@ -245,6 +245,16 @@ pub(crate) fn part(s: &[u8], place: u64, length: u64) -> &[u8] {
     &rest[..rest.len().min(length as usize)]
 }
 
+/// The version of the library that is linked, as one number: the major version times 1,000,000, the minor one times 1,000, and the
+/// patch. It is this crate's.
+///
+/// ```
+/// assert_eq!(brinethimble::version() / 1_000_000, 0, "the major version is in the millions");
+/// ```
+pub fn version() -> u32 {
+    boundary::version()
+}
+
 /// The BER length at a place.
 ///
 /// ```
@@ -295,6 +305,15 @@ pub fn next_key(s: &[u8], end: usize, from: usize) -> usize {
 #[cfg(test)]
 mod tests {
     use super::*;
+
+    #[test]
+    fn the_library_has_the_crates_version() {
+        let [major, minor, patch] = env!("CARGO_PKG_VERSION").split('.').map(|part| part.parse::<u32>().unwrap()).collect::<Vec<_>>()[..]
+        else {
+            panic!("three numbers are a version");
+        };
+        assert_eq!(version(), major * 1_000_000 + minor * 1_000 + patch);
+    }
 
     #[test]
     fn a_length_past_the_bytes_is_cut() {
