@@ -37,7 +37,7 @@ fn fed(record: Record) -> FedRecord {
 
 /// The arriving list of some bytes within a limit.
 fn arriving(bytes: &[u8], limit: usize) -> Vec<FedRecord> {
-    Arriving::new(limit).feed(bytes).expect("within the limit").map(fed).collect()
+    Arriving::new(limit).certain(bytes).expect("within the limit").map(fed).collect()
 }
 
 /// The places and labels of records, so much further on.

@@ -11,6 +11,8 @@
 //! assert_eq!(camera.get(Member::Gain), None);
 //! ```
 
+use core::iter::FusedIterator;
+
 use crate::boundary;
 use crate::places::*;
 use crate::record::{Record, part};
@@ -44,6 +46,8 @@ impl<'a> Iterator for Packages<'a> {
         (found == 1).then(|| Record::at(self.set, [place, value, length], 0))
     }
 }
+
+impl FusedIterator for Packages<'_> {}
 
 /// What a member of a camera's metadata is.
 #[derive(Clone, Copy, PartialEq, Debug)]
@@ -171,7 +175,7 @@ impl Camera {
 /// ```
 pub fn camera_metadata(data: &[u8]) -> Camera {
     let v = boundary::camera(data);
-    Camera(std::array::from_fn(|place| value(v.at(place))))
+    Camera(core::array::from_fn(|place| value(v.at(place))))
 }
 
 /// The value that a kind and its bits say.

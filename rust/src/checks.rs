@@ -9,6 +9,8 @@
 //! assert_eq!(strict(&file, file.len()), Err(Refusal::NoKey { place: 18 }));
 //! ```
 
+use core::iter::FusedIterator;
+
 use crate::boundary;
 use crate::record::Refusal;
 
@@ -77,6 +79,8 @@ impl Iterator for RandomIndex<'_> {
         (found == 1).then_some(Pair { stream: stream as u32, offset, partition: partition == 1 })
     }
 }
+
+impl FusedIterator for RandomIndex<'_> {}
 
 #[cfg(test)]
 mod tests {

@@ -20,6 +20,8 @@
 //! # Ok::<(), brinethimble::Refusal>(())
 //! ```
 
+use core::iter::FusedIterator;
+
 use crate::boundary;
 use crate::record::Refusal;
 use crate::walk::Listed;
@@ -218,6 +220,8 @@ impl Iterator for Piece<'_> {
     }
 }
 
+impl FusedIterator for Piece<'_> {}
+
 #[cfg(test)]
 mod tests {
     use super::*;
@@ -239,7 +243,7 @@ mod tests {
             shortest: r.shortest,
             passed: r.passed,
         };
-        Arriving::new(limit).feed(file).unwrap().map(of).collect()
+        Arriving::new(limit).certain(file).unwrap().map(of).collect()
     }
 
     /// A file with junk, a length in every form, a value with a key inside, an empty one, and one that is torn.

@@ -14,6 +14,8 @@
 //! # Ok::<(), brinethimble::Refusal>(())
 //! ```
 
+use core::iter::FusedIterator;
+
 use crate::boundary::{self, Framed};
 use crate::record::{Record, Refusal};
 
@@ -177,6 +179,8 @@ impl<'a> Iterator for Sony<'a> {
     }
 }
 
+impl FusedIterator for Sony<'_> {}
+
 /// ARRI's frames: picture metadata (ALEXA Mini) or frame data (ALEXA 35) of at most 8,192 bytes.
 #[derive(Clone, Debug)]
 pub struct Arri<'a>(Walk<'a>);
@@ -250,6 +254,8 @@ impl<'a> Iterator for Arri<'a> {
     }
 }
 
+impl FusedIterator for Arri<'_> {}
+
 /// Canon's frames, which are Sony's, and among them the values of Canon's two labels of at most 1,048,576 bytes.
 #[derive(Clone, Debug)]
 pub struct Canon<'a>(Walk<'a>);
@@ -311,6 +317,8 @@ impl<'a> Iterator for Canon<'a> {
         self.0.next()
     }
 }
+
+impl FusedIterator for Canon<'_> {}
 
 #[cfg(test)]
 mod tests {

@@ -16,6 +16,8 @@
 //! assert_eq!(klvs(&run).map(|record| record.label[0]).collect::<Vec<_>>(), [7, 8]);
 //! ```
 
+use core::iter::FusedIterator;
+
 use crate::boundary;
 use crate::record::{Record, part};
 
@@ -47,6 +49,8 @@ impl<'a> Iterator for Klvs<'a> {
         record
     }
 }
+
+impl FusedIterator for Klvs<'_> {}
 
 /// How a set's items are coded.
 #[derive(Clone, Copy, PartialEq, Eq, Debug)]
@@ -121,6 +125,8 @@ impl<'a> Iterator for Items<'a> {
         })
     }
 }
+
+impl FusedIterator for Items<'_> {}
 
 #[cfg(test)]
 mod tests {

@@ -34,6 +34,9 @@
 //! | whole files: a strict gate, the random index pack | [`checks`] |
 //! | writing lengths, KLVs, sets, primers, Canon's packs | [`write`] |
 //! | an index beside a file, or shared by two: the record at a byte position | [`index`] |
+//!
+//! The crate needs no `std` and no allocator.
+#![cfg_attr(not(test), no_std)]
 #![forbid(unsafe_op_in_unsafe_fn)]
 #![deny(missing_docs, unsafe_code)]
 

@@ -15,7 +15,7 @@
 //! assert_eq!(next_key(&[0, 0x06, 0x0e, 0x2b, 0x34], 5, 0), 1);
 //! ```
 
-use std::fmt;
+use core::fmt;
 
 use crate::boundary;
 use crate::walk::Cursor;
@@ -162,7 +162,7 @@ impl fmt::Display for Refusal {
     }
 }
 
-impl std::error::Error for Refusal {}
+impl core::error::Error for Refusal {}
 
 /// What stands where a length is read.
 #[derive(Clone, Copy, PartialEq, Eq, Debug)]

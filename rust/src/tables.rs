@@ -11,6 +11,8 @@
 //! assert_eq!(Primer(&pack).get(0x8003), None);
 //! ```
 
+use core::iter::FusedIterator;
+
 use crate::boundary;
 use crate::places::*;
 use crate::record::{Refusal, part};
@@ -116,6 +118,8 @@ impl<'a> Iterator for Lines<'a> {
         (found == 1).then(|| part(self.element, place, length))
     }
 }
+
+impl FusedIterator for Lines<'_> {}
 
 /// A part of the picture.
 #[derive(Clone, Copy, PartialEq, Eq, Default, Debug)]

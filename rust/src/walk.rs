@@ -15,12 +15,14 @@
 //! assert_eq!(Records::of(&file).map(|record| (record.place, record.passed)).collect::<Vec<_>>(), [(5, 5), (27, 3)]);
 //!
 //! let mut upload = Arriving::new(1000);
-//! assert_eq!(upload.feed(&file[..22])?.count(), 0);
+//! assert_eq!(upload.certain(&file[..22])?.count(), 0);
 //! assert_eq!((upload.cursor().at, upload.cursor().since), (5, 0));
-//! let arrived: Vec<_> = upload.feed(&file)?.map(|record| (record.place, record.passed)).collect();
+//! let arrived: Vec<_> = upload.certain(&file)?.map(|record| (record.place, record.passed)).collect();
 //! assert_eq!(arrived, [(5, 5), (27, 3)]);
 //! # Ok::<(), brinethimble::Refusal>(())
 //! ```
+
+use core::iter::{FusedIterator, from_fn};
 
 use crate::boundary;
 use crate::record::{Record, Refusal};
@@ -117,7 +119,10 @@ impl<'a> Iterator for Records<'a> {
     }
 }
 
-/// The arriving walk of an upload: its limit and its cursor. It is lent all that has arrived at each call and keeps none.
+impl FusedIterator for Records<'_> {}
+
+/// The arriving walk of an upload whose bytes the caller keeps, in a buffer that grows: its limit and its cursor. Each call is lent
+/// all that has arrived, from the first byte on. A walk that is handed only the bytes that are new is [`crate::Feeding`].
 #[derive(Clone, Debug)]
 pub struct Arriving {
     limit: usize,
@@ -188,14 +193,14 @@ impl Arriving {
     /// let label = *b"\x06\x0e\x2b\x34\x01\x01\x01\x0d\x0e\x15\x00\x01\x00\x01\x00\x00";
     /// let file = [&label[..], &[1, 7], &label, &[0]].concat();
     /// let mut upload = brinethimble::Arriving::new(1000);
-    /// assert_eq!(upload.feed(&file[..30])?.map(|record| record.value).collect::<Vec<_>>(), [[7]]);
-    /// assert_eq!(upload.feed(&file)?.map(|record| record.place).collect::<Vec<_>>(), [18]);
+    /// assert_eq!(upload.certain(&file[..30])?.map(|record| record.value).collect::<Vec<_>>(), [[7]]);
+    /// assert_eq!(upload.certain(&file)?.map(|record| record.place).collect::<Vec<_>>(), [18]);
     /// # Ok::<(), brinethimble::Refusal>(())
     /// ```
-    pub fn feed<'a>(&mut self, a: &'a [u8]) -> Result<impl Iterator<Item = Record<'a>>, Refusal> {
+    pub fn certain<'a>(&mut self, a: &'a [u8]) -> Result<impl FusedIterator<Item = Record<'a>>, Refusal> {
         // As in `Records::before`: this step only refuses.
         boundary::arrive(a, self.limit, Cursor { at: a.len(), since: a.len() })?;
-        Ok(std::iter::from_fn(move || self.next_klv(a).ok()?))
+        Ok(from_fn(move || self.next_klv(a).ok()?).fuse())
     }
 
     /// Fills lent room with the next certain records and moves on behind them. The walk waits if there was room for more.
@@ -205,11 +210,11 @@ impl Arriving {
     /// let file = [&label[..], &[1, 7], &label, &[0]].concat();
     /// let mut upload = brinethimble::Arriving::new(1000);
     /// let mut room = [[0; 6]; 8];
-    /// assert_eq!(upload.feed_into(&file, &mut room)?, 2);
+    /// assert_eq!(upload.certain_into(&file, &mut room)?, 2);
     /// assert_eq!(room[..2], [[0, 17, 1, 1, 1, 0], [18, 35, 0, 1, 1, 0]]);
     /// # Ok::<(), brinethimble::Refusal>(())
     /// ```
-    pub fn feed_into(&mut self, a: &[u8], room: &mut [Listed]) -> Result<usize, Refusal> {
+    pub fn certain_into(&mut self, a: &[u8], room: &mut [Listed]) -> Result<usize, Refusal> {
         let filled = Filled::new(boundary::arrivals(a, self.limit, self.cursor, room.as_flattened_mut())?);
         self.cursor = filled.next;
         Ok(filled.records)
@@ -356,8 +361,8 @@ mod tests {
         assert_eq!(records_into(&file, 18, at(0), &mut [[7; 6]]), Err(Refusal::EndPastBuffer));
         let mut upload = Arriving::new(16);
         assert_eq!(upload.next_klv(&file), Err(Refusal::PastLimit));
-        assert!(upload.feed(&file).is_err_and(|refusal| refusal == Refusal::PastLimit));
-        assert_eq!(upload.feed_into(&file, &mut [[7; 6]]), Err(Refusal::PastLimit));
+        assert!(upload.certain(&file).is_err_and(|refusal| refusal == Refusal::PastLimit));
+        assert_eq!(upload.certain_into(&file, &mut [[7; 6]]), Err(Refusal::PastLimit));
         assert_eq!(upload.cursor(), at(0));
     }
 
@@ -365,8 +370,8 @@ mod tests {
     fn an_iterator_that_is_dropped_loses_no_record() {
         let file = [record(1, &[0], &[]), record(2, &[0], &[])].concat();
         let mut upload = Arriving::new(100);
-        assert_eq!(upload.feed(&file).unwrap().next().map(|record| record.place), Some(0));
-        assert_eq!(upload.feed(&file).unwrap().next().map(|record| record.place), Some(17));
+        assert_eq!(upload.certain(&file).unwrap().next().map(|record| record.place), Some(0));
+        assert_eq!(upload.certain(&file).unwrap().next().map(|record| record.place), Some(17));
     }
 
     #[test]
@@ -375,7 +380,7 @@ mod tests {
         let mut upload = Arriving::new(file.len());
         let mut places = Vec::new();
         for arrived in 0..=file.len() {
-            places.extend(upload.feed(&file[..arrived]).unwrap().map(|record| (record.place, record.passed)));
+            places.extend(upload.certain(&file[..arrived]).unwrap().map(|record| (record.place, record.passed)));
         }
         assert_eq!(places, Records::of(&file).map(|record| (record.place, record.passed)).collect::<Vec<_>>());
         assert_eq!(places, [(0, 0), (29, 7)]);

@@ -91,12 +91,12 @@ fn what_has_arrived_begins_the_finished_list() {
         let mut upload = Arriving::new(limit);
         let mut arrived = Vec::new();
         for count in [s.len() / 3, s.len() / 2, s.len()] {
-            arrived.extend(upload.feed(&s[..count]).unwrap().map(places));
+            arrived.extend(upload.certain(&s[..count]).unwrap().map(places));
         }
         assert!(finished.starts_with(&arrived));
         let mut room = vec![[0; 6]; finished.len() + 1];
         let mut again = Arriving::new(limit);
-        assert_eq!(again.feed_into(s, &mut room), Ok(arrived.len()));
+        assert_eq!(again.certain_into(s, &mut room), Ok(arrived.len()));
         assert_eq!((&room[..arrived.len()], again.cursor()), (&arrived[..], upload.cursor()));
     });
 }
@@ -185,4 +185,28 @@ fn the_gate_accepts_where_records_follow_each_other_and_up_to_where_they_break()
         some.set(some.get() + u32::from(broken > 0));
     });
     assert!(some.get() > 500);
+}
+
+/// Ends an iterator, and asks it again.
+fn stays_at_its_end<I: std::iter::FusedIterator>(mut items: I) -> bool {
+    items.by_ref().for_each(drop);
+    items.next().is_none() && items.next().is_none()
+}
+
+#[test]
+fn iterators_stay_at_their_end() {
+    on_buffers(|s, number| {
+        let end = number.min(s.len());
+        let limit = s.len() + number;
+        let first = FrameCursor::default();
+        assert!(stays_at_its_end(Records::before(s, end).unwrap()));
+        assert!(stays_at_its_end(Arriving::new(limit).certain(s).unwrap()));
+        assert!(stays_at_its_end(Feeding::limit(limit).piece(s).unwrap()));
+        assert!(stays_at_its_end(Sony::new(s, end).unwrap()) && stays_at_its_end(Sony::arriving(s, limit, first).unwrap()));
+        assert!(stays_at_its_end(Arri::new(s, end).unwrap()) && stays_at_its_end(Arri::arriving(s, limit, first).unwrap()));
+        assert!(stays_at_its_end(Canon::new(s, end).unwrap()));
+        assert!(stays_at_its_end(klvs(s)) && stays_at_its_end(lines(s)) && stays_at_its_end(package_metadata(s)));
+        assert!([Coding::TWO, Coding::BER, Coding::ONE].into_iter().all(|coding| stays_at_its_end(local_items(s, coding))));
+        assert!(RandomIndex::of(s).map_or(true, stays_at_its_end));
+    });
 }

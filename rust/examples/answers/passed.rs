@@ -33,7 +33,7 @@ pub fn walk(out: &mut Text, s: &[u8], end: usize) -> Result<(), Refusal> {
 /// `passarrive`: the records of the arriving walk, and where it waits.
 pub fn arrive(out: &mut Text, a: &[u8], limit: usize) -> Result<(), Refusal> {
     let mut upload = Arriving::new(limit);
-    for record in upload.feed(a)? {
+    for record in upload.certain(a)? {
         put_counted(out, &record);
         out.put(";");
     }

@@ -46,7 +46,7 @@ pub fn step(out: &mut Text, s: &[u8], end: usize, from: usize) -> Result<(), Ref
 /// `arrive`: the records of the arriving walk from 0 on, and where it waits.
 pub fn arrive(out: &mut Text, a: &[u8], limit: usize) -> Result<(), Refusal> {
     let mut upload = Arriving::new(limit);
-    for record in upload.feed(a)? {
+    for record in upload.certain(a)? {
         put_record(out, &record);
         out.put(";");
     }
