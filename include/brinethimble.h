@@ -4,14 +4,17 @@
  * keeps anything between calls but in a state that the host lends. So any number of threads may call at once, each with states of
  * its own. Buffers stay the caller's; an answer is a place in the buffer that was handed in, or in the file, never a pointer.
  *
- * A buffer is a pointer and a length in bytes. The pointer must be to that many bytes that can be read (for lent room:
- * written), and must not be NULL, not even for a length of 0. Lent room must not overlap the buffer or other lent room.
+ * A buffer is a pointer and a length, in bytes or in numbers. The pointer must be to that many that can be read (for lent room:
+ * written). Where the length is 0 it may be NULL: nothing is read or written there. An array with a stated size must be there. Lent
+ * room must not overlap the buffer or other lent room.
  *
- * Every `out` has a fixed number of places and a fixed meaning for each: its comment tells them in their order, and they have
- * names. A call that is not refused writes all of them; a place that the answer does not use is 0. A refusal writes nothing,
+ * Every `out` has a fixed number of places and a fixed meaning for each: its comment tells them in their order, and they and their
+ * number have names. A call that is not refused writes all of them; a place that the answer does not use is 0. A refusal writes nothing,
  * but for BRINE_NO_ROOM's length and the place of brine_strict's refusals.
  *
  * How much memory may a stranger's bytes make a call ask for? None. docs/BOUNDS.md has the stack of each call.
+ *
+ * This is C99, and C++. It is for 64-bit machines.
  */
 #ifndef BRINETHIMBLE_H
 #define BRINETHIMBLE_H
@@ -24,6 +27,9 @@
 #ifdef __cplusplus
 extern "C" {
 #endif
+
+/* A place in a buffer is a size_t, in an out a number of 64 bits: where the two differ this does not compile. */
+typedef char brine_size_has_64_bits[sizeof(size_t) == 8 ? 1 : -1];
 
 /* ---- The header itself ----------------------------------------------------------------------------------------------- */
 
@@ -89,6 +95,35 @@ uint32_t brine_version(void);
 /* The shares of two files are above the whole index. */
 #define BRINE_SHARES 20u
 
+/* What a status says, in words that do not change; of a number that is none, that. */
+static inline const char *brine_status_text(uint32_t status)
+{
+    switch (status) {
+    case BRINE_DONE: return "done";
+    case BRINE_END_PAST_BUFFER: return "more is stated than the buffer holds";
+    case BRINE_PAST_LIMIT: return "more bytes have arrived than the limit";
+    case BRINE_NO_ROOM: return "more room is needed";
+    case BRINE_ITEM_PAST_SET: return "an item runs past its set";
+    case BRINE_CLOSED: return "the walk is closed, or its known end has not come";
+    case BRINE_DEPTH: return "the depth is not 1 to 8";
+    case BRINE_PACK_SIZE: return "no size of a random index pack ends the file";
+    case BRINE_PACK_LABEL: return "no random index pack's label stands where the size says";
+    case BRINE_PACK_LENGTH: return "the random index pack's length does not fit";
+    case BRINE_TOO_SHORT: return "fewer than 17 bytes are left";
+    case BRINE_NO_KEY: return "no key starts here";
+    case BRINE_NO_LENGTH: return "the record has no length";
+    case BRINE_INDEFINITE: return "the length of the record is 80h";
+    case BRINE_PAST_END: return "the record is not wholly before the end";
+    case BRINE_NO_FIT: return "a field does not fit";
+    case BRINE_START: return "the record starts at 2^48 or behind it";
+    case BRINE_ORDER: return "the record begins before the last one's end";
+    case BRINE_FULL: return "all room is in use";
+    case BRINE_FILE: return "there is no such file, or it is not open, or opened twice";
+    case BRINE_SHARES: return "the shares are above the whole";
+    default: return "no status";
+    }
+}
+
 /* ---- Found: the first place of an out -------------------------------------------------------------------------------- */
 
 #define BRINE_NOTHING 0u
@@ -148,6 +183,9 @@ static inline int64_t brine_signed(uint64_t bits)
 }
 
 /* ---- Lengths and labels ---------------------------------------------------------------------------------------------- */
+
+/* How many bytes a label has. */
+#define BRINE_LABEL 16
 
 /* The BER length at a place of s.
  * out: found (BRINE_FOUND, BRINE_CUT, or BRINE_NOTHING where these bytes are no length), number, bytes that it took (1 to 9),
@@ -258,7 +296,7 @@ uint32_t brine_fed_end(size_t end, uint64_t state[BRINE_STATE]);
 #define BRINE_FED_SHORTEST 6
 #define BRINE_FED_PASSED 7
 #define BRINE_FED_PLACES 8
-uint32_t brine_feed(uint64_t state[BRINE_STATE], const uint8_t *piece, size_t piece_len, uint8_t label[16],
+uint32_t brine_feed(uint64_t state[BRINE_STATE], const uint8_t *piece, size_t piece_len, uint8_t label[BRINE_LABEL],
                     uint64_t out[BRINE_FED_PLACES]);
 
 /* Feeds a piece until all of it is taken or the lent room is full. Each record takes BRINE_BATCH_PLACES places of `records`, as
@@ -314,8 +352,10 @@ uint32_t brine_item(const uint8_t *s, size_t s_len, size_t tag, bool ber, size_t
  * out: the text's length. Bytes past it keep their contents.
  * Status: BRINE_DONE; BRINE_END_PAST_BUFFER; BRINE_DEPTH; BRINE_NO_ROOM, with the length that is needed in out and nothing in
  * the text. The first of them that fits, in this order. */
+#define BRINE_TEXT_LENGTH 0
+#define BRINE_TEXT_PLACES 1
 uint32_t brine_outline(const uint8_t *s, size_t s_len, size_t end, size_t depth, uint8_t *text, size_t text_len,
-                       uint64_t out[1]);
+                       uint64_t out[BRINE_TEXT_PLACES]);
 
 /* ---- Tables ---------------------------------------------------------------------------------------------------------- */
 
@@ -345,7 +385,10 @@ uint32_t brine_arri_block(const uint8_t *element, size_t element_len, uint64_t o
 /* The payload of an ST 436 element, at the start of `payload`. It is never longer than the element.
  * out: its length. Bytes past it keep their contents.
  * Status: BRINE_DONE; BRINE_NO_ROOM, with the length that is needed in out and nothing in the payload. */
-uint32_t brine_payload(const uint8_t *element, size_t element_len, uint8_t *payload, size_t payload_len, uint64_t out[1]);
+#define BRINE_PAYLOAD_LENGTH 0
+#define BRINE_PAYLOAD_PLACES 1
+uint32_t brine_payload(const uint8_t *element, size_t element_len, uint8_t *payload, size_t payload_len,
+                       uint64_t out[BRINE_PAYLOAD_PLACES]);
 
 /* A line of an ST 436 element. The first cursor is place 2 with the number of the element's first two bytes left.
  * out: found, payload's place, payload's length, next cursor's place, lines left there.
@@ -444,7 +487,7 @@ uint32_t brine_fed_arri_end(size_t end, uint64_t first, uint64_t state[BRINE_STA
 #define BRINE_FRAMED_PASSED 7
 #define BRINE_FRAMED_FROM 8
 #define BRINE_FRAMED_PLACES 9
-uint32_t brine_feed_frame(uint64_t state[BRINE_STATE_FRAMES], const uint8_t *piece, size_t piece_len, uint8_t label[16],
+uint32_t brine_feed_frame(uint64_t state[BRINE_STATE_FRAMES], const uint8_t *piece, size_t piece_len, uint8_t label[BRINE_LABEL],
                           uint64_t out[BRINE_FRAMED_PLACES]);
 
 /* Closes a frame walk; it is refused, too, before bytes that are to come again have.
@@ -493,8 +536,15 @@ uint32_t brine_of_alexa35(const uint8_t *element, size_t element_len, uint64_t k
 /* Of a frame that brine_arri_step or brine_arri_arrive gave: its label decides which of the two. `frame` has the element's place, the value's
  * place and length, and over-long: of that step's out from BRINE_ELEMENT_PLACE on. Any number but 0 is over-long.
  * out: found. Where nothing is found all values are nothing. */
-uint32_t brine_arri_values(const uint8_t *s, size_t s_len, const uint64_t frame[4], uint64_t out[1], uint64_t kind[BRINE_VALUES],
-                           uint64_t bits[BRINE_VALUES]);
+#define BRINE_VALUED_PLACE 0
+#define BRINE_VALUED_VALUE 1
+#define BRINE_VALUED_LENGTH 2
+#define BRINE_VALUED_OVERLONG 3
+#define BRINE_VALUED_PLACES 4
+#define BRINE_HAD_FOUND 0
+#define BRINE_HAD_PLACES 1
+uint32_t brine_arri_values(const uint8_t *s, size_t s_len, const uint64_t frame[BRINE_VALUED_PLACES],
+                           uint64_t out[BRINE_HAD_PLACES], uint64_t kind[BRINE_VALUES], uint64_t bits[BRINE_VALUES]);
 
 /* ---- Canon's values -------------------------------------------------------------------------------------------------- */
 
@@ -570,7 +620,9 @@ uint32_t brine_sequence(const uint8_t *s, size_t s_len, uint64_t out[BRINE_SEQUE
  * out: 0 where the file is accepted, else the place where this breaks.
  * Status: BRINE_DONE, accepted; BRINE_END_PAST_BUFFER, with nothing in out; else the first of these that fits there:
  * BRINE_TOO_SHORT, BRINE_NO_KEY, BRINE_NO_LENGTH, BRINE_INDEFINITE, BRINE_PAST_END. */
-uint32_t brine_strict(const uint8_t *s, size_t s_len, size_t end, uint64_t out[1]);
+#define BRINE_STRICT_PLACE 0
+#define BRINE_STRICT_PLACES 1
+uint32_t brine_strict(const uint8_t *s, size_t s_len, size_t end, uint64_t out[BRINE_STRICT_PLACES]);
 
 /* The random index pack that ends a file, found from the file's last four bytes. s is the whole file.
  * out: the first pair's place, how many pairs there are: the first cursor of brine_pair.
@@ -600,29 +652,32 @@ uint32_t brine_pair(const uint8_t *s, size_t s_len, size_t at, size_t left, uint
  * out: the place behind what was written, to go on from.
  * Status: BRINE_DONE; BRINE_NO_FIT, with nothing in out; BRINE_NO_ROOM, with the bytes that it takes from its place on in out. The
  * first of them that fits, in this order; a refusal leaves the room as it was. */
+#define BRINE_WRITTEN_NEXT 0
+#define BRINE_WRITTEN_PLACES 1
 
 /* How many bytes the shortest form of a length takes: 1 to 9. */
 size_t brine_shortest(uint64_t n);
 
 /* A length in a form of `size` bytes, 1 to 9, that holds it: brine_shortest says the least. 80h is never written. */
-uint32_t brine_put_length(uint64_t n, size_t size, uint8_t *room, size_t room_len, size_t at, uint64_t out[1]);
+uint32_t brine_put_length(uint64_t n, size_t size, uint8_t *room, size_t room_len, size_t at,
+                          uint64_t out[BRINE_WRITTEN_PLACES]);
 
 /* A KLV: its label, its length in a form of `size` bytes, its value. */
-uint32_t brine_put_klv(const uint8_t label[16], size_t size, const uint8_t *value, size_t value_len, uint8_t *room,
-                       size_t room_len, size_t at, uint64_t out[1]);
+uint32_t brine_put_klv(const uint8_t label[BRINE_LABEL], size_t size, const uint8_t *value, size_t value_len, uint8_t *room,
+                       size_t room_len, size_t at, uint64_t out[BRINE_WRITTEN_PLACES]);
 
 /* The KLVs of the run s (those of brine_run), each length in its shortest form, at the start of the room. What follows the last whole
  * one is not written. The bytes are those of the run exactly where every length of it was the shortest. It has no BRINE_NO_FIT. */
-uint32_t brine_rewrite(const uint8_t *s, size_t s_len, uint8_t *room, size_t room_len, uint64_t out[1]);
+uint32_t brine_rewrite(const uint8_t *s, size_t s_len, uint8_t *room, size_t room_len, uint64_t out[BRINE_WRITTEN_PLACES]);
 
 /* An item of a local set: its tag and its length in two bytes each, its value. A set is its items one behind the other. */
 uint32_t brine_put_item(uint64_t tag, const uint8_t *value, size_t value_len, uint8_t *room, size_t room_len, size_t at,
-                        uint64_t out[1]);
+                        uint64_t out[BRINE_WRITTEN_PLACES]);
 
 /* The value of a primer pack: the count of its entries, their size, and for each tag of two bytes in its order the tag and its label,
  * 16 bytes of `labels`. Labels that are not 16 bytes for each tag are BRINE_NO_FIT. */
 uint32_t brine_put_primer(const uint64_t *tags, size_t tags_len, const uint8_t *labels, size_t labels_len, uint8_t *room,
-                          size_t room_len, size_t at, uint64_t out[1]);
+                          size_t room_len, size_t at, uint64_t out[BRINE_WRITTEN_PLACES]);
 
 /* One of Canon's packs, 1 to 20, 5 bytes: its id and its raw fields as bits of a number of 32 bits; bits of no field are 0. brine_camera
  * reads packs behind a byte that counts them. The fields are those of this table in its order, a number for each: by id, each field's
@@ -631,7 +686,7 @@ uint32_t brine_put_primer(const uint64_t *tags, size_t tags_len, const uint8_t *
  *    7  31+1, 24+7, 16+8, 12+4     8  30+2, 24+4, 16+1             9, 12, 13, 16, 17, 19  0+32
  *    11  31+1, 28+3, 16+12, 0+16   14, 15  16+16                   18  31+1, 0+16             20  24+2 */
 uint32_t brine_put_pack(uint64_t id, const uint64_t *fields, size_t fields_len, uint8_t *room, size_t room_len, size_t at,
-                        uint64_t out[1]);
+                        uint64_t out[BRINE_WRITTEN_PLACES]);
 
 /* ---- An index beside a file ------------------------------------------------------------------------------------------ */
 
@@ -655,8 +710,10 @@ uint64_t brine_group(const uint8_t *s, size_t s_len, const size_t firsts[BRINE_G
 #define BRINE_ENTRY_GROUP 2
 #define BRINE_ENTRY_LENGTH 3
 #define BRINE_ENTRY_PLACES 4
+#define BRINE_ADDED_USED 0
+#define BRINE_ADDED_PLACES 1
 uint32_t brine_index_add(uint8_t *index, size_t index_len, bool columns, size_t used, const uint64_t entry[BRINE_ENTRY_PLACES],
-                         uint64_t out[1]);
+                         uint64_t out[BRINE_ADDED_PLACES]);
 
 /* The first record that covers a byte position, by its label, its length or its value.
  * out: found, number of the record (from 0), its start, size of its length field, group, length.
@@ -676,10 +733,14 @@ uint32_t brine_index_find(const uint8_t *index, size_t index_len, bool columns, 
  * Every call answers on the one as on the other, and turning back gives the same bytes.
  * out: how many bytes that are, which is rows_len. Bytes of the room behind them keep their contents.
  * Status: BRINE_DONE; BRINE_NO_ROOM, with the length that is needed in out and nothing in the room. */
-uint32_t brine_index_columns(const uint8_t *rows, size_t rows_len, uint8_t *room, size_t room_len, uint64_t out[1]);
+#define BRINE_TURNED_LENGTH 0
+#define BRINE_TURNED_PLACES 1
+uint32_t brine_index_columns(const uint8_t *rows, size_t rows_len, uint8_t *room, size_t room_len,
+                             uint64_t out[BRINE_TURNED_PLACES]);
 
 /* An index in columns as rows, likewise. */
-uint32_t brine_index_rows(const uint8_t *columns, size_t columns_len, uint8_t *room, size_t room_len, uint64_t out[1]);
+uint32_t brine_index_rows(const uint8_t *columns, size_t columns_len, uint8_t *room, size_t room_len,
+                          uint64_t out[BRINE_TURNED_PLACES]);
 
 /* ---- An index that two files share ----------------------------------------------------------------------------------- */
 
@@ -709,7 +770,7 @@ uint32_t brine_shared_close(uint64_t room[BRINE_ROOM_PLACES], uint64_t file);
 
 /* Adds a record behind the last one of a file. entry: as brine_index_add's.
  * Status: BRINE_DONE; else the first of these that fits, with index and room as they were: BRINE_END_PAST_BUFFER (the room states
- * more than the buffer holds), BRINE_FILE, BRINE_FIELD, BRINE_START, BRINE_ORDER, BRINE_FULL. */
+ * more than the buffer holds), BRINE_FILE, BRINE_NO_FIT, BRINE_START, BRINE_ORDER, BRINE_FULL. */
 uint32_t brine_shared_add(uint8_t *index, size_t index_len, bool columns, uint64_t room[BRINE_ROOM_PLACES], uint64_t file,
                           const uint64_t entry[BRINE_ENTRY_PLACES]);
 
