@@ -12,18 +12,18 @@ use crate::{Done, Found, Trouble, frames};
 /// Lines of one piece, each with the place of the byte that made it certain.
 type Lines = Vec<(usize, Line)>;
 
-/// The walks over an upload, and how many of each were said.
+/// The walks over an upload, and how many of each were said. A frame walk that wants bytes again which are gone is over.
 struct Upload {
     limit: usize,
     records: Feeding,
-    frames: [(Camera, Walk); 2],
+    frames: [(Camera, Option<Walk>); 2],
     come: usize,
     counts: [u64; 2],
 }
 
 impl Upload {
     fn new(limit: usize) -> Self {
-        let frames = [Camera::Sony, Camera::Arri].map(|camera| (camera, Walk::limited(camera, limit)));
+        let frames = [Camera::Sony, Camera::Arri].map(|camera| (camera, Some(Walk::limited(camera, limit))));
         Upload { limit, records: Feeding::limit(limit), frames, come: 0, counts: [0, 0] }
     }
 
@@ -37,17 +37,29 @@ impl Upload {
             self.counts[0] += 1;
             lines.push((record.value_place + record.value_length, told(out.line("record"), &record)));
         }
-        for (camera, walk) in &mut self.frames {
-            while walk.at < self.come {
-                let piece = source.piece(walk.at)?;
-                let end = piece.len().min(self.come - walk.at);
-                if let Some(frame) = walk.feed(&piece[..end])? {
-                    self.counts[1] += 1;
-                    lines.push((frame.value_place + frame.value_length, frames::line(asked, out, source, *camera, &frame)?));
-                }
-            }
+        for number in 0..self.frames.len() {
+            self.frames_of(number, asked, out, source, &mut lines)?;
         }
         Ok((lines, self.come > start))
+    }
+
+    /// Feeds what has come to the walk of a camera.
+    fn frames_of(&mut self, number: usize, asked: &Asked, out: &Out, source: &mut Source, lines: &mut Lines) -> Result<(), Trouble> {
+        let (camera, slot) = &mut self.frames[number];
+        while let Some(walk) = slot.as_mut().filter(|walk| walk.at < self.come) {
+            if !source.keeps(walk.at) {
+                lines.push((self.come, out.line("lost").text("lost", camera.name()).word("place", walk.at)));
+                *slot = None;
+                break;
+            }
+            let piece = source.piece(walk.at)?;
+            let end = piece.len().min(self.come - walk.at);
+            if let Some(frame) = walk.feed(&piece[..end])? {
+                self.counts[1] += 1;
+                lines.push((frame.value_place + frame.value_length, frames::line(asked, out, source, *camera, &frame)?));
+            }
+        }
+        Ok(())
     }
 }
 
@@ -74,6 +86,7 @@ pub fn run(asked: &Asked, out: &mut Out) -> Done {
     }
     match upload.records.close()? {
         Ending::Again { from, rest } => again(out, from, rest),
+        Ending::Clean if upload.frames.iter().any(|(_, walk)| walk.is_none()) => Ok(Found::Wanting),
         Ending::Clean => Ok(Found::Right),
     }
 }
