@@ -100,8 +100,12 @@ const MEMBERS: [(&str, Member); 31] = [
     ("Base_Gamma_D_Range", Member::BaseGammaDRange),
 ];
 
-/// A Canon camera's values. Its shutter speed is a part of a second.
+/// What Canon's Set_Mode says of a shutter value that is in degrees.
+const DEGREE: Value = Value::Code(1);
+
+/// A Canon camera's values. Its shutter speed is a part of a second; its shutter value is an angle where the mode says so.
 pub fn canon(camera: &Camera) -> Values {
+    let angle = camera.get(Member::SetMode) == Some(DEGREE);
     let said = MEMBERS.into_iter().filter_map(|(name, member)| {
         let value = match camera.get(member)? {
             Value::Float(seconds) if member == Member::ShutterSpeed => Said::Double(seconds * 1000.0),
@@ -112,7 +116,7 @@ pub fn canon(camera: &Camera) -> Values {
             Value::Flag(set) => Said::Whole(i128::from(set)),
             text => Said::Text(format!("{text:?}").to_lowercase()),
         };
-        Some((name, value))
+        Some((if angle && member == Member::ShutterValue { "shutter_angle_deg" } else { name }, value))
     });
     Values(said.collect())
 }
