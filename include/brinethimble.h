@@ -368,12 +368,25 @@ uint32_t brine_outline(const uint8_t *s, size_t s_len, size_t end, size_t depth,
 uint32_t brine_header(const uint8_t *s, size_t s_len, uint64_t out[BRINE_HEADER_PLACES]);
 
 /* The label of a local tag, looked up in the primer pack's value s. The pack's count is not trusted; the last of equal tags
- * is the answer.
+ * is the answer. It searches s, as long as s is: for one look-up. For more, and always where every item of a set is looked up, which may
+ * be as long as a stranger likes, use brine_primer_table once and brine_primer_in for each (docs/SPEED.md has the times).
  * out: found, place of its 16 bytes in s. */
 #define BRINE_PRIMER_FOUND 0
 #define BRINE_PRIMER_PLACE 1
 #define BRINE_PRIMER_PLACES 2
 uint32_t brine_primer(const uint8_t *s, size_t s_len, uint64_t tag, uint64_t out[BRINE_PRIMER_PLACES]);
+
+/* A table over the primer pack's value s, for brine_primer_in: filled in one pass over s. What was in it before does not count, so that
+ * one table serves any number of primers, one after the other, and is never cleared. (In C a new one must be written once, with
+ * anything, before it is handed in: calloc does.) */
+#define BRINE_TAGS 65536
+uint32_t brine_primer_table(const uint8_t *s, size_t s_len, uint64_t table[BRINE_TAGS]);
+
+/* What brine_primer answers of the same s, in a time that does not depend on it. With any other table the answer is nothing, or the
+ * label of some entry of s with that tag.
+ * out: as brine_primer. */
+uint32_t brine_primer_in(const uint8_t *s, size_t s_len, const uint64_t table[BRINE_TAGS], uint64_t tag,
+                         uint64_t out[BRINE_PRIMER_PLACES]);
 
 /* ARRI's 256 bytes in the value of a picture metadata element.
  * out: found, place. */

@@ -14,7 +14,7 @@
 
 static uint8_t bytes[BYTES], other[BYTES], payload[BYTES], text[6 * BYTES];
 static uint64_t state[BRINE_STATE], records[BRINE_BATCH_PLACES * 4096], out[BRINE_ELEMENT_PLACES], kind[BRINE_VALUES], bits[BRINE_VALUES];
-static uint64_t frames[BRINE_STATE_FRAMES], frame[4], tags[BYTES / 16];
+static uint64_t frames[BRINE_STATE_FRAMES], frame[4], tags[BYTES / 16], table[BRINE_TAGS];
 static const uint64_t fields[5] = {7, 31, 1, 32767, 255};
 static size_t firsts[64], counts[64];
 static int64_t positions[2];
@@ -61,6 +61,8 @@ static void do_item(void) { sink = brine_item(bytes, BYTES, 2, true, 0, out); }
 static void do_outline(void) { sink = brine_outline(bytes, BYTES, BYTES, 8, text, 6 * BYTES, out); }
 static void do_header(void) { sink = brine_header(bytes, BYTES, out); }
 static void do_primer(void) { sink = brine_primer(bytes, BYTES, 0x0e2b, out); }
+static void do_primer_table(void) { sink = brine_primer_table(bytes, BYTES, table); }
+static void do_primer_in(void) { sink = brine_primer_in(bytes, BYTES, table, 0x0e2b, out); }
 static void do_arri_block(void) { sink = brine_arri_block(bytes, BYTES, out); }
 static void do_payload(void) { sink = brine_payload(bytes, BYTES, payload, BYTES, out); }
 static void do_line(void) { sink = brine_line(bytes, BYTES, 2, 65535, out); }
@@ -123,7 +125,7 @@ static struct {
 } calls[] = {
     CALL(nothing), CALL(version), CALL(length), CALL(same_label), CALL(next_key), CALL(step), CALL(arrive), CALL(records), CALL(arrivals),
     CALL(fed_limit), CALL(fed_end), CALL(feed), CALL(feed_records), CALL(close), CALL(tally), CALL(run), CALL(item),
-    CALL(outline), CALL(header), CALL(primer), CALL(arri_block), CALL(payload), CALL(line), CALL(descriptor), CALL(sony_step),
+    CALL(outline), CALL(header), CALL(primer), CALL(primer_table), CALL(primer_in), CALL(arri_block), CALL(payload), CALL(line), CALL(descriptor), CALL(sony_step),
     CALL(arri_step), CALL(canon_step), CALL(of_dynamic), CALL(of_alexa35), CALL(arri_values), CALL(package), CALL(camera),
     CALL(sequence), CALL(strict), CALL(random_index), CALL(pair),
     CALL(shortest), CALL(put_length), CALL(put_klv), CALL(rewrite), CALL(put_item), CALL(put_primer), CALL(put_pack),

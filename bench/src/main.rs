@@ -9,6 +9,7 @@ mod measure;
 #[path = "../../rust/src/places.rs"]
 mod places;
 mod port;
+mod primers;
 mod published;
 mod rows;
 mod tables;
@@ -23,6 +24,7 @@ bench all [FILE]     all tables, with the instructions of each side of each row 
 bench some WORDS ..  the rows whose part and name have these words
 bench linear         the arriving walk alone
 bench fed            the fed walk beside the arriving one
+bench primers        look-ups in a primer: a search each, a table, the Rust's map
 bench worst          the periodic inputs that the port's search takes longest for
 bench once WORDS ..  each side of each row that has these words once, for counting instructions";
 
@@ -35,6 +37,7 @@ fn main() {
         ["some", ..] => part_by_part(rows().iter().filter(|row| has(row, &args[1..])).map(|row| (row, None))),
         ["linear"] => linear::table(),
         ["fed"] => fed::table(),
+        ["primers"] => primers::table(),
         ["worst"] => worst::table(),
         ["once", ..] => once(&args[1..]),
         _ => println!("{USAGE}"),
@@ -66,6 +69,7 @@ fn all(counts: &[f64]) {
     part_by_part(
         rows.iter().enumerate().map(|(i, row)| (row, counts.get(2 * i).zip(counts.get(2 * i + 1)).map(|(port, rust)| port / rust))),
     );
+    primers::table();
     linear::table();
     fed::table();
 }

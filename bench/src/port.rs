@@ -78,6 +78,18 @@ pub fn primer(s: &[u8], tag: u64) -> [u64; 2] {
     out
 }
 
+/// Fills a table over a primer.
+pub fn primer_table(s: &[u8], table: &mut [u64; 65536]) {
+    unsafe { brine_primer_table(s.as_ptr(), s.len(), table) };
+}
+
+/// What the look-up of a tag in a primer writes out, by a table over it.
+pub fn primer_in(s: &[u8], table: &[u64; 65536], tag: u64) -> [u64; 2] {
+    let mut out = [0; 2];
+    unsafe { brine_primer_in(s.as_ptr(), s.len(), table, tag, &mut out) };
+    out
+}
+
 /// What the search for ARRI's 256 bytes writes out.
 pub fn arri_block(element: &[u8]) -> [u64; 2] {
     let mut out = [0; 2];

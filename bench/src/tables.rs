@@ -7,6 +7,7 @@ use oracle::sony::mxf::reach as sony;
 
 use crate::inputs::{KEY, Random, records};
 use crate::port;
+use crate::primers::{Table, mapped, primer, searched};
 use crate::rows::{Row, kept};
 
 /// The calls of a pass: few where a call is long, since a short pass is the less disturbed.
@@ -34,38 +35,25 @@ pub fn row(name: &str, target: Option<f64>, port: impl Fn() -> u64 + 'static, ru
     }
 }
 
-/// A primer pack of so many entries: tag i is 8000h + i.
-fn primer(entries: u16) -> Vec<u8> {
-    let mut random = Random::new();
-    let mut bytes = [(entries as u32).to_be_bytes(), 18u32.to_be_bytes()].concat();
-    for i in 0..entries {
-        bytes.extend((0x8000 + i).to_be_bytes());
-        bytes.extend(random.bytes(16));
-    }
-    bytes
-}
-
-/// A primer of 100 entries. The Rust makes a map of it, once for a file; the port searches it at each look-up.
+/// A primer of 100 entries. The Rust makes a map of it, once for a file; the port searches it, or fills a table once.
 fn primers(rows: &mut Vec<Row>) {
     let s = kept(primer(100));
-    let last = |label: &[u8]| label[15] as u64;
-    let found = move |tag: u16| last(&s[port::primer(s, tag as u64)[1] as usize..][..16]);
+    let tags = || 0x8000..0x8064;
     rows.push(row(
         "primer of 100 entries: map made (Rust) and one look-up",
         Some(1.0),
-        move || found(0x8032),
-        move || last(&arri::primer(s)[&0x8032]),
+        move || searched(s, 0x8032..0x8033),
+        move || mapped(s, 0x8032..0x8033),
     ));
-    let all = |find: &dyn Fn(u16) -> u64| (0x8000..0x8064).map(find).sum();
-    rows.push(row(
-        "primer of 100 entries: map made (Rust) and 100 look-ups",
+    let table = Table::default();
+    let mut all = row(
+        "primer of 100 entries: table (in Rust a map) made and 100 look-ups",
         Some(1.0),
-        move || all(&found),
-        move || {
-            let map = arri::primer(s);
-            all(&|tag| last(&map[&tag]))
-        },
-    ));
+        move || table.looked_up(s, tags()),
+        move || mapped(s, tags()),
+    );
+    all.others.push(("a search each", Box::new(move || (0..LONG_CALLS).map(|_| searched(s, tags())).sum())));
+    rows.push(all);
 }
 
 /// The lengths that steps give, together, from the first cursor to the end.

@@ -223,6 +223,18 @@ pub fn primer(s: &[u8], tag: u16) -> [u64; 2] {
     out
 }
 
+/// `brine_primer_table`.
+pub fn primer_table(s: &[u8], table: &mut [u64; 65536]) {
+    unsafe { brine_primer_table(s.as_ptr(), s.len(), table) };
+}
+
+/// `brine_primer_in`: found, place.
+pub fn primer_in(s: &[u8], table: &[u64; 65536], tag: u16) -> [u64; 2] {
+    let mut out = [0; 2];
+    unsafe { brine_primer_in(s.as_ptr(), s.len(), table, tag.into(), &mut out) };
+    out
+}
+
 /// `brine_arri_block`: found, place.
 pub fn arri_block(element: &[u8]) -> [u64; 2] {
     let mut out = [0; 2];

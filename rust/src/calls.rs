@@ -31,6 +31,8 @@ unsafe extern "C" {
     ) -> u32;
     fn brine_header(s: *const u8, s_len: usize, out: &mut [u64; 3]) -> u32;
     fn brine_primer(s: *const u8, s_len: usize, tag: u64, out: &mut [u64; 2]) -> u32;
+    fn brine_primer_table(s: *const u8, s_len: usize, table: &mut [u64; 65536]) -> u32;
+    fn brine_primer_in(s: *const u8, s_len: usize, table: &[u64; 65536], tag: u64, out: &mut [u64; 2]) -> u32;
     fn brine_arri_block(element: *const u8, element_len: usize, out: &mut [u64; 2]) -> u32;
     fn brine_payload(element: *const u8, element_len: usize, payload: *mut u8, payload_len: usize, out: &mut [u64; 1]) -> u32;
     fn brine_line(element: *const u8, element_len: usize, at: usize, left: usize, out: &mut [u64; 5]) -> u32;

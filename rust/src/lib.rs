@@ -66,6 +66,6 @@ pub use index::{Entry, Index, Layout, SharedIndex};
 pub use items::{Coding, Item, Items, Klvs, klvs, local_items};
 pub use outline::outline_into;
 pub use record::{Length, Record, Refusal, next_key, read_ber, same_label, version};
-pub use tables::{Area, Descriptor, Lines, Primer, dynamic_metadata, header_partition_metadata, lines, payload_into};
+pub use tables::{Area, Descriptor, Lines, Primer, TAGS, TabledPrimer, dynamic_metadata, header_partition_metadata, lines, payload_into};
 pub use values::{Distance, Encoders, FrameValues, TStop, of_alexa35, of_dynamic, values_of};
 pub use walk::{Arriving, Cursor, Filled, Listed, Records, Tally, next_klv, records_into, tally};

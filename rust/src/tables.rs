@@ -51,9 +51,51 @@ impl<'a> Primer<'a> {
     /// pack.push(9);
     /// assert_eq!(brinethimble::Primer(&pack).get(0x8001), Some(&[9; 16]));
     /// ```
+    ///
+    /// It searches the pack, as long as that is: for one look-up. For more, and always where every item of a set is looked up, use
+    /// [`Primer::tabled`].
     pub fn get(self, tag: u16) -> Option<&'a [u8; 16]> {
-        let [found, place] = boundary::primer(self.0, tag);
+        self.label(boundary::primer(self.0, tag))
+    }
+
+    /// The same primer with a table over it, filled in one pass: a look-up then takes a time that does not depend on the pack. What
+    /// was in the table before does not count, so that one serves any number of primers, one after the other.
+    ///
+    /// ```
+    /// use brinethimble::{Primer, TAGS};
+    ///
+    /// let mut table = Box::new([7; TAGS]);
+    /// let pack = [&[0, 0, 0, 0, 0, 0, 0, 18][..], &[0x80, 1], &[7; 16], &[0x80, 1], &[8; 16]].concat();
+    /// let primer = Primer(&pack).tabled(&mut table);
+    /// assert_eq!(primer.get(0x8001), Some(&[8; 16]));
+    /// assert_eq!(primer.get(0x8002), None);
+    /// assert_eq!(Primer(&[]).tabled(&mut table).get(0x8001), None);
+    /// ```
+    pub fn tabled<'t>(self, table: &'t mut [u64; TAGS]) -> TabledPrimer<'a, 't> {
+        boundary::primer_table(self.0, table);
+        TabledPrimer { primer: self, table }
+    }
+
+    /// The label that a look-up found.
+    fn label(self, [found, place]: [u64; 2]) -> Option<&'a [u8; 16]> {
         (found == 1).then(|| part(self.0, place, 16).try_into().expect("16 bytes of label"))
+    }
+}
+
+/// How many tags of two bytes there are: the places of [`Primer::tabled`]'s table.
+pub const TAGS: usize = 65536;
+
+/// A primer with a table over it: [`Primer::tabled`].
+#[derive(Clone, Copy, Debug)]
+pub struct TabledPrimer<'a, 't> {
+    primer: Primer<'a>,
+    table: &'t [u64; TAGS],
+}
+
+impl<'a> TabledPrimer<'a, '_> {
+    /// The label of a local tag: what [`Primer::get`] answers.
+    pub fn get(self, tag: u16) -> Option<&'a [u8; 16]> {
+        self.primer.label(boundary::primer_in(self.primer.0, self.table, tag))
     }
 }
 
@@ -230,6 +272,33 @@ mod tests {
         assert_eq!(Primer(&pack(18)).get(0x8001), Some(&[7; 16]));
         assert_eq!(Primer(&pack(17)).get(0x8001), None);
         assert_eq!(Primer(&pack(18)[..25]).get(0x8001), None);
+    }
+
+    #[test]
+    fn a_table_says_of_every_tag_what_the_search_says_whatever_was_in_it() {
+        let packs = [
+            vec![],
+            [&[0, 0, 0, 0, 0, 0, 0, 17][..], &[0x80; 40]].concat(),
+            [&[0xff, 0xff, 0xff, 0xff, 0, 0, 0, 18][..], &[0; 18], &[0xff; 18], &[0; 18], &[0x80; 17]].concat(),
+            [&[0, 0, 0, 0, 0, 0, 0, 18][..], &[0x80; 18], &[0x81; 18]].concat(),
+        ];
+        for before in [0, 1, 2, u64::MAX] {
+            let mut table = [before; TAGS];
+            for pack in &packs {
+                let tabled = Primer(pack).tabled(&mut table);
+                assert!((0..=u16::MAX).all(|tag| tabled.get(tag) == Primer(pack).get(tag)));
+            }
+        }
+    }
+
+    #[test]
+    fn a_table_that_was_not_filled_names_nothing_or_an_entry_with_the_tag() {
+        let pack = [&[0, 0, 0, 2, 0, 0, 0, 18][..], &[0x3c, 0x0a], &[1; 16], &[0x3c, 0x0a], &[2; 16]].concat();
+        for (number, answer) in [(0, [1, 10]), (1, [1, 28]), (2, [0, 0]), (u64::MAX, [0, 0])] {
+            let table = [number; TAGS];
+            assert_eq!(boundary::primer_in(&pack, &table, 0x3c0a), answer);
+            assert_eq!(boundary::primer_in(&pack, &table, 0x3c0b), [0, 0]);
+        }
     }
 
     #[test]

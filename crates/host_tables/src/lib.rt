@@ -3,6 +3,7 @@
 ghost use mathlib.Core.Path.{_≡_};
 ghost use lib.ListN.{length};
 ghost use Rattle.primer.specs.Primer.{entryOf};
+ghost use Rattle.primer_table.specs.Table.{tableOf, heldFor};
 ghost use Rattle.header.specs.Header.{headerOf};
 ghost use Rattle.arri_block.specs.Block.{blockOf};
 ghost use Rattle.st436.specs.Lines.{lineStep};
@@ -44,6 +45,35 @@ pub extern "C" fn brine_primer(s: &[u8], tag: u64, out: &mut [u64; 2]) -> u32
     ensures { λ r. ⌜ now (out .exit) ≡ startPlaces (entryOf (now (s .entry)) tag) ⌝ }
 {
     let e = primer::find(s, tag);
+    match e {
+        Entry::Label(at) => *out = [1, at as u64],
+        Entry::Nothing => *out = [0, 0],
+    }
+    0
+}
+
+// A table over a primer pack's value.
+#[no_mangle]
+pub extern "C" fn brine_primer_table(s: &[u8], table: &mut [u64; 65536]) -> u32
+    ensures { λ r. ⌜ r ≡ 0 ⌝ }
+    ensures { λ r. ⌜ now (table .exit) ≡ tableOf (now (s .entry)) (now (table .entry)) ⌝ }
+{
+    primer_table::fill(s, table);
+    0
+}
+
+// The label of a local tag in a primer pack's value, by a table over it.
+#[no_mangle]
+pub extern "C" fn brine_primer_in(
+    s: &[u8],
+    table: &[u64; 65536],
+    tag: u64,
+    out: &mut [u64; 2],
+) -> u32
+    ensures { λ r. ⌜ r ≡ 0 ⌝ }
+    ensures { λ r. ⌜ now (out .exit) ≡ startPlaces (heldFor (now (s .entry)) (now (table .entry)) tag) ⌝ }
+{
+    let e = primer_table::find(s, table, tag);
     match e {
         Entry::Label(at) => *out = [1, at as u64],
         Entry::Nothing => *out = [0, 0],

@@ -11,9 +11,9 @@ use lib.ListN.{length}
 use lib.Dec.{eqb}
 use Rattle.parts.specs.Number.{numberAt}
 use Rattle.parts.specs.Answer.{Answer, is, none}
-use Rattle.primer.specs.Primer.{later, lastOf, entryOf}
+use Rattle.primer.specs.Primer.{lastOf, entryOf}
 use Rattle.primer.specs.LastWins.{place, Tagged, Last, LastWins, LastTagWins}
-use Rattle.primer.proofs.Laws.{last-none, entry-of}
+use Rattle.primer.proofs.Laws.{newest, older, last-none, entry-of}
 
 module _ (s : List ℕ) (tag : ℕ) where
   -- What the first n entries answer: the last of them that has the tag, or nothing where none has
@@ -28,18 +28,10 @@ module _ (s : List ℕ) (tag : ℕ) where
   further n a other (missed none-has) =
       missed (λ j m x. by-cases (decLt j n) (λ b. none-has j b x) (λ b. let z : j ≡ n = omega arith in other (rw z at x)))
 
-  newest : (n : ℕ) → eqb (numberAt s (place n) 2) tag ≡ true → lastOf s tag (suc n) ≡ is (place n + 2)
-  unfolding lastOf later
-  newest n e = rw e
-
-  older : (n : ℕ) → eqb (numberAt s (place n) 2) tag ≡ false → lastOf s tag (suc n) ≡ lastOf s tag n
-  unfolding lastOf later
-  older n e = rw e
-
   one-more : (n : ℕ) → Seen n (lastOf s tag n) → (b : Bool) → eqb (numberAt s (place n) 2) tag ≡ b → Seen (suc n) (lastOf s tag (suc n))
   one-more n before true e =
-      rw (newest n e) (hit n (omega arith) (eqb-true _ _ e) (λ j l m x. absurd (omega arith)))
-  one-more n before false e = rw (older n e) (further n (lastOf s tag n) (eqb-false _ _ e) before)
+      rw (newest s tag n e) (hit n (omega arith) (eqb-true _ _ e) (λ j l m x. absurd (omega arith)))
+  one-more n before false e = rw (older s tag n e) (further n (lastOf s tag n) (eqb-false _ _ e) before)
 
   seen : (n : ℕ) → Seen n (lastOf s tag n)
   seen zero = rw (← last-none s tag) (missed (λ j m x. absurd (omega arith)))

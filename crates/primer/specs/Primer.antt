@@ -23,6 +23,10 @@ unfoldable pub lastOf : List ℕ → ℕ → ℕ → Answer ℕ
 lastOf s tag zero = none
 lastOf s tag (suc n) = later s (8 + 18 * n) tag (lastOf s tag n)
 
--- bytes 4..8 must be 18, else it is empty; the count is ignored; a partial last entry is dropped
+-- how many entries there are: none where bytes 4..8 are not 18; the count is ignored; a partial last entry is dropped
+unfoldable pub entriesIn : List ℕ → ℕ
+entriesIn s = cond (leb 8 (length s) && eqb (numberAt s 4 4) 18) ((length s - 8) / 18) 0
+
+-- what the primer has for a tag
 unfoldable pub entryOf : List ℕ → ℕ → Answer ℕ
-entryOf s tag = cond (leb 8 (length s) && eqb (numberAt s 4 4) 18) (lastOf s tag ((length s - 8) / 18)) none
+entryOf s tag = lastOf s tag (entriesIn s)

@@ -6,7 +6,7 @@ ghost use Prim.Native.Nat.{_+_, _≤_};
 ghost use lib.ListN.{length};
 ghost use lib.Dec.{eqb};
 ghost use Rattle.parts.specs.Number.{numberAt};
-ghost use Rattle.primer.specs.Primer.{told, entryOf};
+ghost use Rattle.primer.specs.Primer.{told, entriesIn, entryOf};
 use parts::number;
 
 // What the primer has for a tag.
@@ -14,6 +14,19 @@ pub enum Entry {
     // The place of its label's 16 bytes.
     Label(usize),
     Nothing,
+}
+
+// How many whole entries a primer's value has.
+pub fn entries(s: &[u8]) -> usize
+    ensures { λ r. ⌜ r ≡ entriesIn (now (s .entry)) ⌝ }
+{
+    if s.len() < 8 {
+        return 0;
+    }
+    if number(&s[4..8]) != 18 {
+        return 0;
+    }
+    (s.len() - 8) / 18
 }
 
 // Whether the entry at a place has the tag.
@@ -29,13 +42,7 @@ fn has(s: &[u8], at: usize, tag: u64) -> bool
 pub fn find(s: &[u8], tag: u64) -> Entry
     ensures { λ r. ⌜ told r ≡ entryOf (now (s .entry)) tag ⌝ }
 {
-    if s.len() < 8 {
-        return Entry::Nothing;
-    }
-    if number(&s[4..8]) != 18 {
-        return Entry::Nothing;
-    }
-    let n = (s.len() - 8) / 18;
+    let n = entries(s);
     let mut i = n;
     while 0 < i {
         let at = 8 + 18 * (i - 1);

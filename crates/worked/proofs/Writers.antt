@@ -4,7 +4,7 @@ use Rattle.parts.specs.Number.{numberAt, twoAt, fourAt}
 use Rattle.steps.specs.Listed.{before, atMost, listFrom, onward, endAtMost, endFrom}
 use Rattle.lengths.specs.Length.{boundOf, shortestOf, heldAt, lengthBy, lengthAt}
 use Rattle.items.specs.Items.{lengthIn, byValue, byLength, itemStep, runOf}
-use Rattle.primer.specs.Primer.{later, lastOf, entryOf}
+use Rattle.primer.specs.Primer.{later, lastOf, entriesIn, entryOf}
 use Rattle.canon_values.specs.Values as values
 use Rattle.canon_groups.specs.Fields.{table, bitsOf}
 use Rattle.canon_groups.specs.Groups.{after, balanceAfter}
@@ -27,7 +27,7 @@ unfolding numberAt bytesOf boundOf shortestOf heldAt lengthBy lengthAt lengthIn 
 klvs = (refl, refl, refl, refl, refl, refl)
 
 tables : Tables
-unfolding numberAt bytesOf later lastOf entryOf goodItem localBytes allTags goodPrimer entriesBytes primerBytes
+unfolding numberAt bytesOf later lastOf entriesIn entryOf goodItem localBytes allTags goodPrimer entriesBytes primerBytes
 tables = (refl, refl, refl, refl, refl, refl)
 
 packs : Packs

@@ -1,8 +1,9 @@
 //! `header`, `primer`, `items`, `dynamic`, `ofdynamic`, `alexa` and `arri`: the published arri/mxf.rs.
 
 use std::collections::BTreeSet;
+use std::sync::Mutex;
 
-use brinethimble::{Arri, Coding, Distance, Encoders, FrameValues, Primer, Refusal, TStop, local_items, values_of};
+use brinethimble::{Arri, Coding, Distance, Encoders, FrameValues, Primer, Refusal, TAGS, TStop, local_items, values_of};
 
 use crate::sony::put_place;
 use crate::text::{Text, offset};
@@ -14,15 +15,32 @@ pub fn header(out: &mut Text, s: &[u8]) {
     });
 }
 
-/// `primer`: each tag that the search finds, in rising order, with its label.
+/// `primer`: each tag that the search finds, in rising order, with its label. By a table that has served the cases before, and
+/// starts with a number of its own at each tag, it must be the same.
 pub fn primer(out: &mut Text, s: &[u8]) {
+    static TABLE: Mutex<[u64; TAGS]> = Mutex::new(numbers());
+    let mut table = TABLE.lock().expect("one thread");
+    let tabled = Primer(s).tabled(&mut table);
     let entries = s.get(8..).unwrap_or_default().chunks(18);
     let tags: BTreeSet<u16> = entries.filter_map(|entry| entry.first_chunk()).map(|tag| u16::from_be_bytes(*tag)).collect();
     for tag in tags {
-        if let Some(label) = Primer(s).get(tag) {
+        let found = Primer(s).get(tag);
+        assert_eq!((found, Primer(s).get(!tag)), (tabled.get(tag), tabled.get(!tag)));
+        if let Some(label) = found {
             out.hex(&tag.to_be_bytes()).put("=").hex(label).put(";");
         }
     }
+}
+
+/// A table that was never filled: 0 to 6, over and over.
+const fn numbers() -> [u64; TAGS] {
+    let mut table = [0; TAGS];
+    let mut tag = 0;
+    while tag < TAGS {
+        table[tag] = tag as u64 % 7;
+        tag += 1;
+    }
+    table
 }
 
 /// `items`: the local items of a set.
