@@ -12,7 +12,7 @@
  * number have names. A call that is not refused writes all of them; a place that the answer does not use is 0. A refusal writes nothing,
  * but for BRINE_NO_ROOM's length and the place of brine_strict's refusals.
  *
- * How much memory may a stranger's bytes make a call ask for? None. docs/BOUNDS.md has the stack of each call.
+ * How much memory may a stranger's bytes make a call ask for? None. docs/BOUNDS.md has the stack and the time of each call.
  *
  * This is C99, and C++. It is for 64-bit machines.
  */
