@@ -13,6 +13,7 @@ struct answer {
 };
 
 static const uint64_t frame[BRINE_VALUED_PLACES], entry[BRINE_ENTRY_PLACES] = {0, 1, 0, 0};
+static uint64_t table[BRINE_TAGS];
 static struct answer a;
 
 /* The call, with p for each buffer of bytes and q for each of numbers. */
@@ -32,6 +33,8 @@ CALL(item, p, 0, 2, true, 0, a.out)
 CALL(outline, p, 0, 0, 8, p, 0, a.out)
 CALL(header, p, 0, a.out)
 CALL(primer, p, 0, 7, a.out)
+CALL(primer_table, p, 0, table)
+CALL(primer_in, p, 0, table, 7, a.out)
 CALL(arri_block, p, 0, a.out)
 CALL(payload, p, 0, p, 0, a.out)
 CALL(line, p, 0, 2, 1, a.out)
@@ -72,8 +75,8 @@ static const struct {
     void (*call)(uint8_t *p, uint64_t *q);
 } calls[] = {
     ROW(length), ROW(same_label), ROW(next_key), ROW(step), ROW(arrive), ROW(records), ROW(arrivals), ROW(tally), ROW(feed),
-    ROW(feed_records), ROW(run), ROW(item), ROW(outline), ROW(header), ROW(primer), ROW(arri_block), ROW(payload), ROW(line),
-    ROW(descriptor), ROW(sony_step), ROW(arri_step), ROW(canon_step), ROW(sony_arrive), ROW(arri_arrive), ROW(feed_frame),
+    ROW(feed_records), ROW(run), ROW(item), ROW(outline), ROW(header), ROW(primer), ROW(primer_table), ROW(primer_in), ROW(arri_block),
+    ROW(payload), ROW(line), ROW(descriptor), ROW(sony_step), ROW(arri_step), ROW(canon_step), ROW(sony_arrive), ROW(arri_arrive), ROW(feed_frame),
     ROW(of_dynamic), ROW(of_alexa35), ROW(arri_values), ROW(package), ROW(camera), ROW(sequence), ROW(strict), ROW(random_index),
     ROW(pair), ROW(put_length), ROW(put_klv), ROW(rewrite), ROW(put_item), ROW(put_primer), ROW(put_pack), ROW(group),
     ROW(index_add), ROW(index_find), ROW(index_columns), ROW(index_rows), ROW(shared_set_up), ROW(shared_add), ROW(shared_find),
