@@ -3,7 +3,7 @@
  *   send PORT ID primer CLAIM BYTES
  * PIECES are sizes with commas between, taken in turn. `pause AT` waits after so many bytes for a line on standard input, `tear
  * AT` closes there. `primer` is a hostile upload: a primer pack that claims a value of CLAIM bytes and FFFFFFFFh entries, of
- * which BYTES bytes of value are sent. It ends with 2 where the receiver closed before all was sent. */
+ * which BYTES bytes of value are sent. It writes the receiver's answer, and ends with 2 where that is not that all is stored. */
 #include "net.h"
 
 #include <netinet/tcp.h>
@@ -14,7 +14,8 @@
 
 #define MOST_PIECES 16
 #define LONGEST_PIECE 65536
-#define CLOSED 2
+#define LONGEST_ANSWER 63
+#define REFUSED 2
 
 static uint8_t piece[LONGEST_PIECE];
 
@@ -59,14 +60,19 @@ static bool send_bytes(int to, const uint8_t *bytes, size_t length)
     return true;
 }
 
-/* Closes towards the receiver and waits until it closes, too. */
-static void finish(int to)
+/* Closes towards the receiver, writes its answer, and waits until it closes, too; whether it has stored the upload. */
+static bool finish(int to)
 {
-    char c;
+    char answer[LONGEST_ANSWER + 1];
+    size_t length = 0;
+    ssize_t n;
     shutdown(to, SHUT_WR);
-    while (recv(to, &c, 1, 0) > 0)
-        ;
+    while (length < LONGEST_ANSWER && (n = recv(to, answer + length, LONGEST_ANSWER - length, 0)) > 0)
+        length += (size_t)n;
+    answer[length] = 0;
     close(to);
+    fputs(answer, stdout);
+    return strncmp(answer, "stored ", 7) == 0;
 }
 
 /* Waits for a line on standard input. */
@@ -168,6 +174,5 @@ int main(int argc, char **argv)
         return 1;
     }
     bool sent = hostile ? send_primer(to, claim, bytes) : send_file(to, file, &p);
-    finish(to);
-    return sent ? 0 : CLOSED;
+    return finish(to) && sent ? 0 : REFUSED;
 }

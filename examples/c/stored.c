@@ -33,6 +33,7 @@ bool stored_open(struct stored *s, const char *id)
 {
     char name[LONGEST_NAME];
     s->file = -1;
+    s->length = 0;
     if (named && faccessat(folder, id, F_OK, 0) == 0) {
         errno = EEXIST;
         return false;
@@ -41,7 +42,6 @@ bool stored_open(struct stored *s, const char *id)
         part_name(id, name);
     else
         snprintf(name, sizeof name, ".receive-%ld-%" PRIuFAST64, (long)getpid(), atomic_fetch_add(&opened, 1));
-    s->length = 0;
     s->file = openat(folder, name, O_RDWR | O_CREAT | O_EXCL | O_CLOEXEC, 0600);
     snprintf(s->id, sizeof s->id, "%s", named ? id : "");
     if (s->file >= 0 && !named)
@@ -83,8 +83,12 @@ bool stored_keep(struct stored *s)
     char name[LONGEST_NAME];
     if (s->id[0] != 0) {
         part_name(s->id, name);
-        if (linkat(folder, name, folder, s->id, 0) != 0)
+        if (fsync(s->file) != 0 || linkat(folder, name, folder, s->id, 0) != 0)
             return false;
+        if (fsync(folder) != 0) {
+            unlinkat(folder, s->id, 0);
+            return false;
+        }
     }
     stored_drop(s);
     return true;

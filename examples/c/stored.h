@@ -36,7 +36,7 @@ bool stored_add(struct stored *s, const uint8_t *bytes, size_t length);
 bool stored_map(const struct stored *s, uint64_t from, uint64_t to, struct part *p);
 void stored_unmap(const struct part *p);
 
-/* Closes the file; in a spool it has its upload's name from then on. */
+/* Closes the file; in a spool it is on the disk by then, and has its upload's name from then on. */
 bool stored_keep(struct stored *s);
 
 /* Closes and removes the file, if it was not kept. */

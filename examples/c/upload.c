@@ -1,6 +1,8 @@
 #include "upload.h"
+#include "canon.h"
 #include "tell.h"
 
+#include <errno.h>
 #include <inttypes.h>
 #include <stdio.h>
 
@@ -18,12 +20,19 @@ static const struct camera {
     {"arri", brine_fed_arri_limit, brine_fed_arri_end, tell_values},
 };
 
-/* Why an upload is given up: by the library's number, or since its file cannot be made, written or read. */
+/* Why an upload is given up, by the library's number. */
 static const char *refused(uint32_t status)
 {
     return status == BRINE_PAST_LIMIT ? "2" : "5";
 }
-static const char *const no_storage = "storage";
+
+/* The same by errno, where its file cannot be made, written or read. */
+static const char *not_stored(void)
+{
+    if (errno == EEXIST)
+        return "taken";
+    return errno == EMFILE || errno == ENFILE ? "busy" : "storage";
+}
 
 /* Where to map the file up to from a place: a window's length further. A walk that was fed many times what has arrived gets all the
  * rest as one piece: it goes by an element's length then, and looks at no byte twice, however many elements lie in each other. */
@@ -68,7 +77,9 @@ static const char *finish_records(struct upload *u)
 {
     uint64_t out[BRINE_CLOSE_PLACES];
     const char *why = NULL;
-    brine_close(u->walk, out);
+    uint32_t status = brine_close(u->walk, out);
+    if (status != BRINE_DONE)
+        return refused(status);
     if (out[BRINE_CLOSE_SAYS] != BRINE_AGAIN)
         return NULL;
     printf("%s again %" PRIu64 " %" PRIu64 "\n", u->id, out[BRINE_CLOSE_FROM], out[BRINE_CLOSE_REST]);
@@ -78,7 +89,7 @@ static const char *finish_records(struct upload *u)
         struct part part;
         to = mapped_to(u, at, 0);
         if (!stored_map(&u->stored, at, to, &part))
-            return no_storage;
+            return not_stored();
         why = feed_records(u, part.bytes, part.length);
         stored_unmap(&part);
     }
@@ -117,7 +128,7 @@ static const char *take_frame(struct upload *u, size_t camera, const uint64_t fr
         say_frame(u, camera, frame, bytes + (place - from));
     } else {
         if (!stored_map(&u->stored, place, w->start + frame[BRINE_FRAMED_VALUE] + frame[BRINE_FRAMED_LENGTH], &element))
-            return no_storage;
+            return not_stored();
         say_frame(u, camera, frame, element.bytes);
         stored_unmap(&element);
     }
@@ -156,7 +167,7 @@ static const char *catch_up(struct upload *u, size_t camera)
         uint64_t from = w->at, to = mapped_to(u, from, w->fed);
         struct part part;
         if (!stored_map(&u->stored, from, to, &part))
-            return no_storage;
+            return not_stored();
         why = feed_frames(u, camera, part.bytes, from, to);
         stored_unmap(&part);
     }
@@ -168,7 +179,9 @@ static const char *finish_frames(struct upload *u, size_t camera)
 {
     struct frames *w = &u->cameras[camera];
     uint64_t out[BRINE_ENDED_PLACES];
-    brine_close_frames(w->state, out);
+    uint32_t status = brine_close_frames(w->state, out);
+    if (status != BRINE_DONE)
+        return refused(status);
     if (out[BRINE_ENDED_SAYS] != BRINE_AGAIN)
         return NULL;
     printf("%s again %s %" PRIu64 " %" PRIu64 "\n", u->id, cameras[camera].name, out[BRINE_ENDED_FROM], out[BRINE_ENDED_REST]);
@@ -179,17 +192,18 @@ static const char *finish_frames(struct upload *u, size_t camera)
 
 /* ---- An upload ------------------------------------------------------------------------------------------------------- */
 
-const char *upload_start(struct upload *u, const char *id, uint64_t limit)
+const char *upload_start(struct upload *u, const char *id, uint64_t limit, bool canon)
 {
     snprintf(u->id, sizeof u->id, "%s", id);
     u->limit = limit;
+    u->canon = canon;
     u->start = u->records = 0;
     brine_fed_limit(limit, u->walk);
     for (size_t i = 0; i < CAMERAS; i++) {
         u->cameras[i].start = u->cameras[i].at = u->cameras[i].fed = u->cameras[i].count = 0;
         cameras[i].limit(limit, 0, u->cameras[i].state);
     }
-    return stored_open(&u->stored, id) ? NULL : no_storage;
+    return stored_open(&u->stored, id) ? NULL : not_stored();
 }
 
 size_t upload_room(const struct upload *u, size_t room)
@@ -202,7 +216,7 @@ const char *upload_take(struct upload *u, const uint8_t *piece, size_t length)
 {
     const char *why = feed_records(u, piece, length);
     if (why == NULL && !stored_add(&u->stored, piece, length))
-        why = no_storage;
+        why = not_stored();
     for (size_t i = 0; i < CAMERAS && why == NULL; i++) {
         why = feed_frames(u, i, piece, u->stored.length - length, u->stored.length);
         if (why == NULL)
@@ -216,26 +230,31 @@ void upload_waits(const struct upload *u)
     printf("%s waits %" PRIu64 "\n", u->id, u->stored.length);
 }
 
-/* Says how much was found. */
-static void say_totals(const struct upload *u)
+/* Says how much was found; of Canon's there are frames and given values. */
+static void say_totals(const struct upload *u, const uint64_t canon[2])
 {
     flockfile(stdout);
     printf("%s records %" PRIu64, u->id, u->records);
     for (size_t i = 0; i < CAMERAS; i++)
         printf(" %s %" PRIu64, cameras[i].name, u->cameras[i].count);
+    if (u->canon)
+        printf(" canon %" PRIu64 " given %" PRIu64, canon[0], canon[1]);
     printf("\n");
     funlockfile(stdout);
 }
 
 const char *upload_finish(struct upload *u)
 {
+    uint64_t canon[2] = {0, 0};
     const char *why = finish_records(u);
     for (size_t i = 0; i < CAMERAS && why == NULL; i++)
         why = finish_frames(u, i);
+    if (why == NULL && u->canon && !list_canon(u->id, &u->stored, canon))
+        why = not_stored();
     if (why == NULL && !stored_keep(&u->stored))
-        why = no_storage;
+        why = not_stored();
     if (why == NULL)
-        say_totals(u);
+        say_totals(u, canon);
     return why;
 }
 

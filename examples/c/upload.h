@@ -9,9 +9,17 @@
  *   ID refused WHY
  * and once the sender has closed:
  *   ID again VALUE REST, ID again sony VALUE REST, ID again arri VALUE REST
- *   ID records N sony N arri N
- * PASSED is how many bytes were lost before a record. Where the sender closed within a value, a walk goes on inside it, says so with
- * `again`, and counts PASSED anew from VALUE. */
+ *   ID frame canon NUMBER PLACE VALUE LENGTH PASSED, then the payload's length, or over-long
+ *   ID given canon PLACE VALUE LENGTH PASSED, then what the package metadata or the sequence info has
+ *   ID records N sony N arri N, and canon N given N
+ * those of Canon, whose walk has no arriving form, where they are wanted. PASSED is how many bytes were lost before a
+ * record. Where the sender closed within a value, a walk goes on inside it, says so with `again`, and counts PASSED anew from VALUE.
+ *
+ * WHY is a number of the library, or
+ *   taken     the spool has an upload of this name
+ *   busy      there is no descriptor left for its file
+ *   storage   its file cannot be made, written or read
+ * or what connection.h has: idle, late, ending. */
 #ifndef UPLOAD_H
 #define UPLOAD_H
 
@@ -38,12 +46,13 @@ struct upload {
     uint64_t start;
     uint64_t records;
     struct frames cameras[CAMERAS];
+    bool canon;
 };
 
 /* What is given up is told as a word: why; NULL where it is not. */
 
-/* Starts an upload of at most `limit` bytes. */
-const char *upload_start(struct upload *u, const char *id, uint64_t limit);
+/* Starts an upload of at most `limit` bytes, of which Canon's frames are wanted or not. */
+const char *upload_start(struct upload *u, const char *id, uint64_t limit, bool canon);
 
 /* How many bytes may be read next into room for so many: never more than one past the limit. */
 size_t upload_room(const struct upload *u, size_t room);

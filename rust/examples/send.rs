@@ -2,15 +2,16 @@
 //!
 //! PIECES are sizes with commas between, taken in turn. `pause AT` waits after so many bytes for a line on standard input,
 //! `tear AT` closes there. `primer` is a hostile upload: a primer pack that claims a value of CLAIM bytes and FFFFFFFFh entries,
-//! of which BYTES bytes of value are sent. It ends with 2 where the receiver closed before all was sent.
+//! of which BYTES bytes of value are sent. It writes the receiver's answer, and ends with 2 where that is not that all is stored.
 
 use std::fs::File;
-use std::io::{ErrorKind, Read, Result, Write, stdin};
+use std::io::{Error, ErrorKind, Read, Result, Write, stdin};
 use std::net::{Ipv4Addr, Shutdown, TcpStream};
 use std::process::ExitCode;
 
 const LONGEST_PIECE: u64 = 65_536;
-const CLOSED: u8 = 2;
+const LONGEST_ANSWER: u64 = 63;
+const REFUSED: u8 = 2;
 const PRIMER: [u8; 16] = *b"\x06\x0e\x2b\x34\x02\x05\x01\x01\x0d\x01\x02\x01\x01\x05\x01\x00";
 
 /// What to send.
@@ -29,8 +30,8 @@ fn main() -> ExitCode {
         return ExitCode::FAILURE;
     };
     match upload(port, id, &plan) {
-        Ok(()) => ExitCode::SUCCESS,
-        Err(error) if matches!(error.kind(), ErrorKind::BrokenPipe | ErrorKind::ConnectionReset) => ExitCode::from(CLOSED),
+        Ok(true) => ExitCode::SUCCESS,
+        Ok(false) => ExitCode::from(REFUSED),
         Err(error) => {
             eprintln!("send: {error}");
             ExitCode::FAILURE
@@ -65,17 +66,28 @@ fn read_plan(path: &str, pieces: &str, rest: &[&str]) -> Option<Plan> {
     Some(Plan::File { path: path.into(), pieces, pause, tear })
 }
 
-/// Sends an upload, closes, and waits until the receiver closes, too.
-fn upload(port: u16, id: &str, plan: &Plan) -> Result<()> {
+/// Sends an upload, closes, writes the receiver's answer, and waits until it closes, too; whether it has stored the upload.
+fn upload(port: u16, id: &str, plan: &Plan) -> Result<bool> {
     let mut to = TcpStream::connect((Ipv4Addr::LOCALHOST, port))?;
     to.set_nodelay(true)?;
-    writeln!(to, "{id}")?;
-    match plan {
-        Plan::File { path, pieces, pause, tear } => send_file(&mut to, File::open(path)?, pieces, *pause, *tear)?,
-        Plan::Primer { claim, bytes } => send_primer(&mut to, *claim, *bytes)?,
+    let sent = writeln!(to, "{id}").and_then(|()| match plan {
+        Plan::File { path, pieces, pause, tear } => send_file(&mut to, File::open(path)?, pieces, *pause, *tear),
+        Plan::Primer { claim, bytes } => send_primer(&mut to, *claim, *bytes),
+    });
+    match sent {
+        Err(error) if !closed(&error) => return Err(error),
+        _ => {}
     }
-    to.shutdown(Shutdown::Write)?;
-    to.read_to_end(&mut Vec::new()).map(drop)
+    let mut answer = Vec::new();
+    let _ = to.shutdown(Shutdown::Write); // the receiver may have closed
+    let _ = (&to).take(LONGEST_ANSWER).read_to_end(&mut answer);
+    print!("{}", String::from_utf8_lossy(&answer));
+    Ok(sent.is_ok() && answer.starts_with(b"stored "))
+}
+
+/// Whether an error says that the receiver has closed.
+fn closed(error: &Error) -> bool {
+    matches!(error.kind(), ErrorKind::BrokenPipe | ErrorKind::ConnectionReset)
 }
 
 /// Sends a file in pieces up to where it is torn, and pauses once.

@@ -1,14 +1,12 @@
-//! The file that an upload is stored in as it comes, and parts of it, mapped for reading: what is looked at is read from the file, and
-//! no memory is asked for. The unsafe code of the host is here.
+//! The file that an upload is stored in as it comes, and parts of it, mapped for reading.
 
-use std::ffi::{c_int, c_void};
 use std::fs::{self, File, OpenOptions};
-use std::io::{Error, ErrorKind, Result, Write};
-use std::ops::Deref;
-use std::os::fd::AsRawFd;
+use std::io::{ErrorKind, Result, Write};
 use std::os::unix::fs::OpenOptionsExt;
-use std::path::PathBuf;
+use std::path::{Path, PathBuf};
 use std::sync::atomic::{AtomicU64, Ordering};
+
+use crate::system::Part;
 
 /// The folder of stored files: the spool's, where uploads keep their names, or that of temporary files, where they have none.
 pub struct Folder {
@@ -19,11 +17,10 @@ pub struct Folder {
 
 impl Folder {
     /// The spool's folder, or that of temporary files. It is an error where it is none.
-    pub fn new(spool: Option<PathBuf>) -> Result<Self> {
-        let named = spool.is_some();
-        let path = spool.unwrap_or_else(std::env::temp_dir);
+    pub fn new(spool: Option<&Path>) -> Result<Self> {
+        let path = spool.map_or_else(std::env::temp_dir, Path::to_path_buf);
         fs::read_dir(&path)?;
-        Ok(Folder { path, named, opened: AtomicU64::new(0) })
+        Ok(Folder { path, named: spool.is_some(), opened: AtomicU64::new(0) })
     }
 
     /// Opens a new file for an upload; in a spool it is ID.part until it is whole. It is [`ErrorKind::AlreadyExists`] where the spool
@@ -45,7 +42,7 @@ impl Folder {
     }
 }
 
-/// A stored file. Dropped before it is kept it is removed.
+/// A stored file. It is this program's alone, and is only added to. Dropped before it is kept it is removed.
 pub struct Stored {
     file: File,
     length: usize,
@@ -71,17 +68,16 @@ impl Stored {
         if from >= to || to > self.length {
             return Err(ErrorKind::InvalidInput.into());
         }
-        let before = from % PAGE;
-        let length = to - from;
-        // SAFETY: no memory of this program is named; a refusal is looked at.
-        let map =
-            unsafe { mmap(std::ptr::null_mut(), before + length, PROT_READ, MAP_SHARED, self.file.as_raw_fd(), (from - before) as i64) };
-        if map.addr() == usize::MAX { Err(Error::last_os_error()) } else { Ok(Part { map, before, length }) }
+        Part::new(&self.file, from..to)
     }
 
-    /// Keeps the file; in a spool it has its upload's name from then on.
+    /// Keeps the file; in a spool it is on the disk by then, and has its upload's name from then on.
     pub fn keep(&self) -> Result<()> {
-        self.names.as_ref().map_or(Ok(()), |(part, name)| fs::hard_link(part, name))
+        let Some((part, name)) = &self.names else { return Ok(()) };
+        let folder = File::open(name.parent().unwrap_or(name))?;
+        self.file.sync_all()?;
+        fs::hard_link(part, name)?;
+        folder.sync_all().inspect_err(|_| drop(fs::remove_file(name)))
     }
 }
 
@@ -90,40 +86,5 @@ impl Drop for Stored {
         if let Some((part, _)) = &self.names {
             let _ = fs::remove_file(part);
         }
-    }
-}
-
-const PROT_READ: c_int = 1;
-const MAP_SHARED: c_int = 1;
-/// Every page's length divides this.
-const PAGE: usize = 65_536;
-
-unsafe extern "C" {
-    fn mmap(address: *mut c_void, length: usize, protection: c_int, flags: c_int, file: c_int, offset: i64) -> *mut c_void;
-    fn munmap(address: *mut c_void, length: usize) -> c_int;
-}
-
-/// Bytes of a file.
-pub struct Part {
-    map: *mut c_void,
-    /// How many are mapped before them: a mapping starts with a page.
-    before: usize,
-    length: usize,
-}
-
-impl Deref for Part {
-    type Target = [u8];
-
-    fn deref(&self) -> &[u8] {
-        // SAFETY: so many bytes are mapped until this is dropped. The file is this program's alone: it has no name, or is new and
-        // its owner's to read and write; stored bytes are never written again, and the file is never cut.
-        unsafe { std::slice::from_raw_parts(self.map.cast::<u8>().add(self.before), self.length) }
-    }
-}
-
-impl Drop for Part {
-    fn drop(&mut self) {
-        // SAFETY: it was mapped with this length, and no slice of it is left.
-        unsafe { munmap(self.map, self.before + self.length) };
     }
 }

@@ -15,18 +15,34 @@
 //!
 //! ```text
 //! ID again VALUE REST, ID again sony VALUE REST, ID again arri VALUE REST
-//! ID records N sony N arri N
+//! ID frame canon NUMBER PLACE VALUE LENGTH PASSED, then the payload's length, or over-long
+//! ID given canon PLACE VALUE LENGTH PASSED, then what the package metadata or the sequence info has
+//! ID records N sony N arri N, and canon N given N
 //! ```
 //!
-//! PASSED is how many bytes were lost before a record. Where the sender closed within a value, a walk goes on inside it, says so with
-//! `again`, and counts PASSED anew from VALUE.
+//! those of Canon, whose walk has no arriving form, where they are wanted. PASSED is how many bytes were lost before a record. Where
+//! the sender closed within a value, a walk goes on inside it, says so with `again`, and counts PASSED anew from VALUE.
+//!
+//! WHY is a number of the library, or
+//!
+//! ```text
+//! taken     the spool has an upload of this name
+//! busy      there is no descriptor left for its file
+//! storage   its file cannot be made, written or read
+//! ```
+//!
+//! or what `connection` has: idle, late, ending.
 
-use std::io;
+use std::fmt;
+use std::io::{self, ErrorKind};
 use std::rc::Rc;
 
 use brinethimble::{Ending, FedFrame, FedRecord, Feeding, FeedingFrames, FramesEnding, Refusal};
 
+use crate::canon;
+use crate::options::Options;
 use crate::stored::{Folder, Stored};
+use crate::system::no_descriptor;
 use crate::tell;
 
 const WINDOW: usize = 1 << 20;
@@ -49,8 +65,8 @@ static CAMERAS: [Camera; 2] = [
 pub enum Why {
     /// By the library.
     Refused(Refusal),
-    /// Its file cannot be written or read.
-    Storage,
+    /// By the host.
+    Word(&'static str),
 }
 
 impl From<Refusal> for Why {
@@ -60,16 +76,20 @@ impl From<Refusal> for Why {
 }
 
 impl From<io::Error> for Why {
-    fn from(_: io::Error) -> Self {
-        Why::Storage
+    fn from(error: io::Error) -> Self {
+        match error.kind() {
+            ErrorKind::AlreadyExists => Why::Word("taken"),
+            _ if no_descriptor(&error) => Why::Word("busy"),
+            _ => Why::Word("storage"),
+        }
     }
 }
 
-impl std::fmt::Display for Why {
-    fn fmt(&self, f: &mut std::fmt::Formatter) -> std::fmt::Result {
+impl fmt::Display for Why {
+    fn fmt(&self, f: &mut fmt::Formatter) -> fmt::Result {
         match self {
-            Why::Refused(refusal) => write!(f, "{}", refusal.number()),
-            Why::Storage => write!(f, "storage"),
+            Why::Refused(refusal) => refusal.number().fmt(f),
+            Why::Word(word) => word.fmt(f),
         }
     }
 }
@@ -105,14 +125,14 @@ impl Records {
     fn say(&mut self, record: &FedRecord) {
         let FedRecord { label, value_length, passed, .. } = record;
         let (place, value) = (self.start + record.place, self.start + record.value_place);
-        println!("{} record {place} {:032x} {value} {value_length} {passed}", self.id, u128::from_be_bytes(*label));
+        say!("{} record {place} {:032x} {value} {value_length} {passed}", self.id, u128::from_be_bytes(*label));
         self.count += 1;
     }
 
     /// Closes the walk; where a value is not whole a new one goes through what there is of it.
     fn finish(&mut self, stored: &Stored) -> Result<(), Why> {
         let Ending::Again { from, rest } = self.walk.close()? else { return Ok(()) };
-        println!("{} again {from} {rest}", self.id);
+        say!("{} again {from} {rest}", self.id);
         (self.walk, self.start) = (Feeding::end(rest), from);
         let mut at = from;
         while at < stored.len() {
@@ -139,6 +159,11 @@ struct Frames {
 }
 
 impl Frames {
+    /// A walk of at most so many bytes.
+    fn new(id: Rc<str>, camera: &'static Camera, limit: usize) -> Self {
+        Frames { id, camera, walk: (camera.limit)(limit, 0), start: 0, at: 0, fed: 0, count: 0 }
+    }
+
     /// Feeds bytes of the file, from a place on, and again those of them that the walk wants again; where it wants bytes before them it
     /// stops.
     fn feed(&mut self, stored: &Stored, bytes: &[u8], from: usize) -> Result<(), Why> {
@@ -174,14 +199,14 @@ impl Frames {
         };
         self.count += 1;
         let FedFrame { number, value_length, passed, .. } = frame;
-        println!("{} frame {} {number} {place} {value} {value_length} {passed}{told}", self.id, self.camera.name);
+        say!("{} frame {} {number} {place} {value} {value_length} {passed}{told}", self.id, self.camera.name);
         Ok(())
     }
 
     /// Closes the walk; where a value is not whole a new one goes through what there is of it, and counts on.
     fn finish(&mut self, stored: &Stored) -> Result<(), Why> {
         let FramesEnding::Again { from, rest, first } = self.walk.close()? else { return Ok(()) };
-        println!("{} again {} {from} {rest}", self.id, self.camera.name);
+        say!("{} again {} {from} {rest}", self.id, self.camera.name);
         self.walk = (self.camera.end)(rest, first);
         (self.start, self.at) = (from, from);
         self.catch_up(stored)
@@ -193,20 +218,20 @@ pub struct Upload {
     id: Rc<str>,
     stored: Stored,
     limit: usize,
+    canon: bool,
     records: Records,
     cameras: [Frames; CAMERAS.len()],
 }
 
 impl Upload {
-    /// An upload of at most `limit` bytes, stored in a folder.
-    pub fn new(id: &str, limit: usize, folder: &Folder) -> Result<Self, Why> {
+    /// An upload that is stored in a folder.
+    pub fn new(id: &str, options: &Options, folder: &Folder) -> Result<Self, Why> {
         let stored = folder.open(id)?;
         let id: Rc<str> = id.into();
+        let limit = options.limit;
         let records = Records { id: id.clone(), walk: Feeding::limit(limit), start: 0, count: 0 };
-        let frames =
-            |camera: &'static Camera| Frames { id: id.clone(), camera, walk: (camera.limit)(limit, 0), start: 0, at: 0, fed: 0, count: 0 };
-        let cameras = CAMERAS.each_ref().map(frames);
-        Ok(Upload { id, stored, limit, records, cameras })
+        let cameras = CAMERAS.each_ref().map(|camera| Frames::new(id.clone(), camera, limit));
+        Ok(Upload { id, stored, limit, canon: options.canon, records, cameras })
     }
 
     /// How many bytes may be read next into room for so many: never more than one past the limit.
@@ -228,18 +253,22 @@ impl Upload {
 
     /// Says that no bytes come.
     pub fn say_waits(&self) {
-        println!("{} waits {}", self.id, self.stored.len());
+        say!("{} waits {}", self.id, self.stored.len());
     }
 
-    /// Closes the walks, for the sender has closed, says the rest of the finished lists, and keeps the file.
-    pub fn finish(&mut self) -> Result<(), Why> {
+    /// Closes the walks, for the sender has closed, says the rest of the finished lists, and keeps the file; says how many bytes it has.
+    pub fn finish(&mut self) -> Result<usize, Why> {
         self.records.finish(&self.stored)?;
         for frames in &mut self.cameras {
             frames.finish(&self.stored)?;
         }
+        let canon = if self.canon { Some(canon::list(&self.id, &self.stored)?) } else { None };
         self.stored.keep()?;
-        let counts: String = self.cameras.iter().map(|frames| format!(" {} {}", frames.camera.name, frames.count)).collect();
-        println!("{} records {}{counts}", self.id, self.records.count);
-        Ok(())
+        let mut counts: String = self.cameras.iter().map(|frames| format!(" {} {}", frames.camera.name, frames.count)).collect();
+        if let Some((frames, given)) = canon {
+            counts += &format!(" canon {frames} given {given}");
+        }
+        say!("{} records {}{counts}", self.id, self.records.count);
+        Ok(self.stored.len())
     }
 }
