@@ -1,14 +1,9 @@
--- A place of the input as the system has it, and the end of a walk that closing named. Assumes nothing.
+-- The end of a walk that closing named. Assumes nothing.
 use Prim.Native.Nat.{ℕ, _+_, _-_, _^_, _≤_, _<_}
 use mathlib.Core.Path.{_≡_, refl, sym, _∙_}
 use mathlib.Core.Bool.{Bool, true, false, cond, not, _&&_}
 use native.Mathlib.Omega.{arith}
-use lib.Dec.{T, ltb}
-use lib.IntN.{ℤ, pos, negsuc, natAbs}
-use lib.Signed.{ltZ, nonNeg}
-use mir.Syntax.{w64}
-use mir.Val.{Fits, SFits, toZ, ofZ}
-use mir.ValLaws.{toZ-ofZ}
+use lib.Dec.{ltb}
 use Rattle.steps.specs.Told.{ToldAt, found, nothing, refused}
 use Rattle.lengths.specs.declared.Length.{Length}
 use Rattle.lengths.specs.declared.Length.the-variants.{Is, Cut, None}
@@ -20,19 +15,6 @@ use Rattle.fed_states.specs.State.{lengthOf, soundOf}
 use Rattle.fed_states.specs.Close.{Rest, endingTold, shutTold, endsBy, closeOf}
 use Rattle.fed_states.proofs.Laws.{and-left, sound-tells, come}
 use Rattle.klvstream.specs.Named.{Named}
-
--- a place that is not below 0 is below 2 ^ 63
-pub record Place (z : ℤ) : Type 0 where
-  pub cast : T (nonNeg z) × Fits w64 (natAbs z)
-  pub most : natAbs z ≤ 9223372036854775807
-
-pub place : (z : ℤ) → SFits w64 z → ltZ z (pos 0) ≡ false → Place z
-place (pos n) f e = record { cast = (tt, record { fits = omega (arith, f .sfits) }); most = omega (arith, f .sfits) }
-place (negsuc n) f e = let z : _≡_ {A = ℕ} 0 1 = cc in absurd (omega arith)
-
--- as the machine reads it back
-pub back : (z : ℤ) → SFits w64 z → SFits w64 (toZ w64 (ofZ w64 z))
-back z f = rw (toZ-ofZ w64 z f) f
 
 -- Closing names a walk that ends where the bytes that came do, within the limit
 named-within : (st : State) (s : State) (r : Rest) → found r s ≡ closeOf st → r .from + r .end ≤ st .limit

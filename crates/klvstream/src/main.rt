@@ -15,6 +15,8 @@ use fed_states::Ending;
 use fed_states::Shut;
 use fed_states::State;
 use fed_text::Lines;
+use offsets::offset_of;
+use offsets::place_of;
 use parts::saturating_sub;
 
 // What the program is asked: at most, or exactly, so many bytes.
@@ -196,11 +198,14 @@ fn wound_back(start: i64, v: usize) -> bool {
     if start < 0 {
         return false;
     }
-    let s = start as u64;
-    if 9223372036854775807 - s < v as u64 {
+    let s = place_of(start);
+    if usize::MAX - s < v {
         return false;
     }
-    let to = (s + v as u64) as i64;
+    let to = offset_of(s + v);
+    if to < 0 {
+        return false;
+    }
     libc::lseek(0, to, libc::SEEK_SET) == to
 }
 
