@@ -559,6 +559,56 @@ uint32_t brine_of_alexa35(const uint8_t *element, size_t element_len, uint64_t k
 uint32_t brine_arri_values(const uint8_t *s, size_t s_len, const uint64_t frame[BRINE_VALUED_PLACES],
                            uint64_t out[BRINE_HAD_PLACES], uint64_t kind[BRINE_VALUES], uint64_t bits[BRINE_VALUES]);
 
+/* ---- Two recordings of one take -------------------------------------------------------------------------------------- */
+
+/* The next difference of ARRI's frames in the main and the backup recorder's file, each with an end, from a cursor of three places:
+ * where the two walks stand, and the next frame's number; the first are 0, 0 and 0. Frames meet by number; floats are compared by
+ * their bits. What is apart comes in order of number, and there is nothing exactly where both files have the same values and marks.
+ * out: found, frame's number, what is apart (BRINE_APART_*), the side that has it (BRINE_SIDE_*, 0 of fields), the fields (bit k
+ * is field k, below), next cursor's three places. BRINE_NOTHING: nothing is left; the next cursor is the one handed in.
+ * main_kind and main_bits, backup_kind and backup_bits: the values of both sides (BRINE_FRAME_*) where fields are apart; else
+ * all are nothing.
+ * Status: BRINE_DONE, BRINE_END_PAST_BUFFER of the first file, then of the second. */
+#define BRINE_APART_FIELDS 1u /* fields of the values that both have */
+#define BRINE_APART_VALUES 2u /* this one has values, the other has none; neither is over-long */
+#define BRINE_APART_OVERLONG 3u /* this one is over-long, the other is not */
+#define BRINE_APART_ONLY 4u /* only this one has a frame of this number */
+#define BRINE_SIDE_MAIN 1u
+#define BRINE_SIDE_BACKUP 2u
+/* The fields, in the report's order: each encoder is one, tilt and roll are one, and so are the factors on the three colours. */
+#define BRINE_FIELD_FOCAL_LENGTH 0
+#define BRINE_FIELD_FOCUS_DISTANCE 1
+#define BRINE_FIELD_T_STOP 2
+#define BRINE_FIELD_EXPOSURE_TIME 3
+#define BRINE_FIELD_SHUTTER_ANGLE 4
+#define BRINE_FIELD_TILT_ROLL 5
+#define BRINE_FIELD_EXPOSURE_INDEX 6
+#define BRINE_FIELD_WHITE_BALANCE 7
+#define BRINE_FIELD_ND_DENSITY 8
+#define BRINE_FIELD_EFFECTIVE_FOCAL_LENGTH 9
+#define BRINE_FIELD_WHITE_BALANCE_FACTORS 10
+#define BRINE_FIELD_FOCUS_LDS 11
+#define BRINE_FIELD_FOCUS_MOTOR 12
+#define BRINE_FIELD_ZOOM_LDS 13
+#define BRINE_FIELD_ZOOM_MOTOR 14
+#define BRINE_FIELD_IRIS_LDS 15
+#define BRINE_FIELD_IRIS_MOTOR 16
+#define BRINE_FIELD_TINT 17
+#define BRINE_FIELD_SENSOR_RATE 18
+#define BRINE_TAKES_FOUND 0
+#define BRINE_TAKES_NUMBER 1
+#define BRINE_TAKES_APART 2
+#define BRINE_TAKES_SIDE 3
+#define BRINE_TAKES_FIELDS 4
+#define BRINE_TAKES_MAIN 5
+#define BRINE_TAKES_BACKUP 6
+#define BRINE_TAKES_NEXT_NUMBER 7
+#define BRINE_TAKES_PLACES 8
+uint32_t brine_takes_step(const uint8_t *main, size_t main_len, size_t main_end, const uint8_t *backup, size_t backup_len,
+                          size_t backup_end, size_t main_at, size_t backup_at, uint64_t number, uint64_t out[BRINE_TAKES_PLACES],
+                          uint64_t main_kind[BRINE_VALUES], uint64_t main_bits[BRINE_VALUES], uint64_t backup_kind[BRINE_VALUES],
+                          uint64_t backup_bits[BRINE_VALUES]);
+
 /* ---- Canon's values -------------------------------------------------------------------------------------------------- */
 
 /* The next Private Camera Metadata of a package set, from a cursor of two places; the first are 0 and 0.

@@ -9,7 +9,7 @@
 
 static uint8_t bytes[BYTES], other[BYTES], payload[BYTES], text[6 * BYTES];
 static uint64_t records[BRINE_BATCH_PLACES * (BYTES / 16)], tags[BYTES / 16], table[BRINE_TAGS];
-static uint64_t out[BRINE_ELEMENT_PLACES], kind[BRINE_VALUES], bits[BRINE_VALUES], frame[4];
+static uint64_t out[BRINE_ELEMENT_PLACES], kind[BRINE_VALUES], bits[BRINE_VALUES], kind_too[BRINE_VALUES], bits_too[BRINE_VALUES], frame[4];
 static const uint64_t fields[5] = {7, 31, 1, 32767, 255};
 static size_t firsts[64], counts[64];
 static int64_t positions[2];
@@ -75,6 +75,10 @@ static void do_close_frames(void) { sink = brine_close_frames(frames, out); }
 static void do_of_dynamic(void) { sink = brine_of_dynamic(bytes, 256, kind, bits); }
 static void do_of_alexa35(void) { sink = brine_of_alexa35(bytes, size, kind, bits); }
 static void do_arri_values(void) { sink = brine_arri_values(bytes, size, frame, out, kind, bits); }
+static void do_takes_step(void)
+{
+    sink = brine_takes_step(bytes, size, size, other, size, size, 0, 0, 0, out, kind, bits, kind_too, bits_too);
+}
 static void do_package(void) { sink = brine_package(bytes, size, 0, 0, out); }
 static void do_camera(void) { sink = brine_camera(bytes, size, kind, bits); }
 static void do_sequence(void) { sink = brine_sequence(bytes, size, out, positions); }

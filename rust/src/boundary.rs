@@ -5,6 +5,7 @@
 use crate::Refusal;
 use crate::frames::FrameCursor;
 use crate::places::{KIND_F32, KIND_F64, KIND_WHOLE, VALUES};
+use crate::takes::TakesCursor;
 use crate::walk::Cursor;
 
 /// The library is for 64-bit machines: a place that it answers is a `usize`.
@@ -362,6 +363,40 @@ pub fn arri_values(s: &[u8], frame: &[u64; 4]) -> Option<Values> {
     let (mut out, mut v) = ([0], Values::default());
     unsafe { brine_arri_values(s.as_ptr(), s.len(), frame, &mut out, &mut v.kind, &mut v.bits) };
     (out[0] == 1).then_some(v)
+}
+
+/// What a step over two recordings wrote: found, number, what is apart, the side that has it, fields, the next cursor's three places;
+/// and the values of both sides.
+#[derive(Default)]
+pub struct TakesStep {
+    pub out: [u64; 8],
+    pub main: Values,
+    pub backup: Values,
+}
+
+/// `brine_takes_step`, of two files with their ends.
+pub fn takes_step(main: (&[u8], usize), backup: (&[u8], usize), at: TakesCursor) -> Result<TakesStep, Refusal> {
+    let ((a, a_end), (b, b_end), mut step) = (main, backup, TakesStep::default());
+    let TakesStep { out, main, backup } = &mut step;
+    let status = unsafe {
+        brine_takes_step(
+            a.as_ptr(),
+            a.len(),
+            a_end,
+            b.as_ptr(),
+            b.len(),
+            b_end,
+            at.main,
+            at.backup,
+            at.number,
+            out,
+            &mut main.kind,
+            &mut main.bits,
+            &mut backup.kind,
+            &mut backup.bits,
+        )
+    };
+    answered(status, 0, step)
 }
 
 /// `brine_package`: found, record's place, value's place, value's length, next cursor's two places.

@@ -55,6 +55,11 @@ unsafe extern "C" {
     fn brine_arri_values(
         s: *const u8, s_len: usize, frame: &[u64; 4], out: &mut [u64; 1], kind: &mut [u64; 32], bits: &mut [u64; 32],
     ) -> u32;
+    fn brine_takes_step(
+        main: *const u8, main_len: usize, main_end: usize, backup: *const u8, backup_len: usize, backup_end: usize, main_at: usize,
+        backup_at: usize, number: u64, out: &mut [u64; 8], main_kind: &mut [u64; 32], main_bits: &mut [u64; 32],
+        backup_kind: &mut [u64; 32], backup_bits: &mut [u64; 32],
+    ) -> u32;
     fn brine_package(s: *const u8, s_len: usize, from: usize, end: usize, out: &mut [u64; 6]) -> u32;
     fn brine_camera(s: *const u8, s_len: usize, kind: &mut [u64; 32], bits: &mut [u64; 32]) -> u32;
     fn brine_sequence(s: *const u8, s_len: usize, out: &mut [u64; 8], positions: &mut [i64; 2]) -> u32;

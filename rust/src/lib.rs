@@ -30,6 +30,7 @@
 //! | the frames of Sony's, ARRI's and Canon's files | [`frames`] |
 //! | Sony's and ARRI's frames of a file that comes in pieces | [`feeding_frames`] |
 //! | the values of ARRI's frames | [`values`] |
+//! | what two recordings of one take have apart | [`takes`] |
 //! | Canon's camera metadata and sequence info | [`canon`] |
 //! | whole files: a strict gate, the random index pack | [`checks`] |
 //! | writing lengths, KLVs, sets, primers, Canon's packs | [`write`] |
@@ -53,6 +54,7 @@ pub mod outline;
 mod places;
 pub mod record;
 pub mod tables;
+pub mod takes;
 pub mod values;
 pub mod walk;
 pub mod write;
@@ -67,5 +69,6 @@ pub use items::{Coding, Item, Items, Klvs, klvs, local_items};
 pub use outline::outline_into;
 pub use record::{Length, Record, Refusal, next_key, read_ber, same_label, version};
 pub use tables::{Area, Descriptor, Lines, Primer, TAGS, TabledPrimer, dynamic_metadata, header_partition_metadata, lines, payload_into};
+pub use takes::{Apart, Difference, Field, Fields, Side, Takes, TakesCursor};
 pub use values::{Distance, Encoders, FrameValues, TStop, of_alexa35, of_dynamic, values_of};
 pub use walk::{Arriving, Cursor, Filled, Listed, Records, Tally, next_klv, records_into, tally};

@@ -89,7 +89,7 @@ pub struct FrameValues {
 
 impl FrameValues {
     /// The values that the library wrote, at the places that include/brinethimble.h gives them.
-    fn written(v: &Values) -> Self {
+    pub(crate) fn written(v: &Values) -> Self {
         let low = |place| v.whole(place).map(|n| n as u32);
         FrameValues {
             focal_length: v.single(FRAME_FOCAL_LENGTH),

@@ -24,7 +24,7 @@ fn mini(element: &[u8]) -> Values
 }
 
 // The values in an element, by its label.
-fn in_element(label: &[u8], element: &[u8]) -> Values
+pub fn in_element(label: &[u8], element: &[u8]) -> Values
     ensures { λ r. ⌜ r ≡ elementOf (now (label .entry)) (now (element .entry)) ⌝ }
 {
     if labels::agree_but(label, &Arri::FRAME_DATA, 7, 13, 15) {

@@ -17,6 +17,8 @@ use Rattle.frame_values.specs.declared.Whole32.the-variants as whole32
 use Rattle.frame_values.specs.declared.Whole64.{Whole64}
 use Rattle.frame_values.specs.declared.Whole64.the-variants as whole64
 use Rattle.frame_values.specs.declared.Frame.{Frame}
+use Rattle.arri_values.specs.declared.Values.{Values}
+use Rattle.arri_values.specs.declared.Values.the-variants as values
 use Rattle.host_slots.specs.declared.Slot.{Slot}
 use Rattle.host_slots.specs.Slots as slots
 
@@ -103,3 +105,8 @@ frameSlots f = slots.places (
     ∷ doubleSlot (f .tint)
     ∷ doubleSlot (f .«sensor_rate»)
     ∷ [])
+
+-- where there are no values, all are nothing
+unfoldable pub valueSlots : Values → List Slot
+valueSlots (values.Are f) = frameSlots f
+valueSlots values.Nothing = slots.places []

@@ -2,7 +2,8 @@
 ghost use mathlib.Core.Path.{_≡_};
 ghost use lib.ListN.{take, drop};
 ghost use Rattle.host_slots.specs.Slots.{kinds, patterns};
-ghost use Rattle.host_frame_places.specs.Places.{singleSlot, doubleSlot, whole32Slot, whole64Slot, distanceSlot, tStopSlot, tiltSlot, rollSlot, redSlot, greenSlot, blueSlot, frameSlots};
+ghost use Rattle.host_frame_places.specs.Places.{singleSlot, doubleSlot, whole32Slot, whole64Slot, distanceSlot, tStopSlot, tiltSlot, rollSlot, redSlot, greenSlot, blueSlot, frameSlots, valueSlots};
+use arri_values::Values;
 use frame_values::Distance;
 use frame_values::Double;
 use frame_values::Factors;
@@ -219,4 +220,18 @@ pub fn put_frame(f: Frame, kind: &mut [u64; 32], bits: &mut [u64; 32])
         kind,
         bits,
     );
+}
+
+// Puts the values of a frame that may have none.
+pub fn put_values(v: Values, kind: &mut [u64; 32], bits: &mut [u64; 32])
+    ensures { λ r. ⌜ now (kind .exit) ≡ kinds (valueSlots v) ⌝ }
+    ensures { λ r. ⌜ now (bits .exit) ≡ patterns (valueSlots v) ⌝ }
+{
+    match v {
+        Values::Are(f) => put_frame(f, kind, bits),
+        Values::Nothing => {
+            *kind = [0; 32];
+            *bits = [0; 32];
+        }
+    }
 }

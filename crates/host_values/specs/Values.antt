@@ -7,9 +7,6 @@ use lib.Dec.{ltb}
 use Rattle.frame_walks.specs.declared.FrameElement.{FrameElement}
 use Rattle.arri_values.specs.declared.Values.{Values}
 use Rattle.arri_values.specs.declared.Values.the-variants as values
-use Rattle.host_slots.specs.declared.Slot.{Slot}
-use Rattle.host_slots.specs.Slots.{places}
-use Rattle.host_frame_places.specs.Places.{frameSlots}
 
 -- the frame of four places: the element's place, the value's place and length, over-long where the last is not 0; values ask
 -- nothing of its length field
@@ -24,8 +21,3 @@ frameOf f = record {
 unfoldable pub foundPlaces : Values → List ℕ
 foundPlaces (values.Are f) = 1 ∷ []
 foundPlaces values.Nothing = 0 ∷ []
-
--- where nothing is found all values are nothing
-unfoldable pub valueSlots : Values → List Slot
-valueSlots (values.Are f) = frameSlots f
-valueSlots values.Nothing = places []

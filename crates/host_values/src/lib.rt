@@ -2,13 +2,14 @@
 // (include/brinethimble.h).
 ghost use mathlib.Core.Path.{_≡_};
 ghost use Rattle.host_slots.specs.Slots.{kinds, patterns};
-ghost use Rattle.host_frame_places.specs.Places.{frameSlots};
+ghost use Rattle.host_frame_places.specs.Places.{frameSlots, valueSlots};
 ghost use Rattle.arri_mini.specs.Dynamic.{dynamicOf};
 ghost use Rattle.arri_alexa35.specs.Alexa.{alexaOf};
 ghost use Rattle.arri_values.specs.Values.{valuesOf};
-ghost use Rattle.host_values.specs.Values.{frameOf, foundPlaces, valueSlots};
+ghost use Rattle.host_values.specs.Values.{frameOf, foundPlaces};
 use arri_values::Values;
 use host_frame_places::put_frame;
+use host_frame_places::put_values;
 use klv::Klv;
 
 // The values in ARRI's 256 bytes.
@@ -77,17 +78,10 @@ pub extern "C" fn brine_arri_values(
     ensures { λ r. ⌜ now (bits .exit) ≡ patterns (valueSlots (valuesOf (now (s .entry)) (frameOf (now (frame .entry))))) ⌝ }
 {
     let v = arri_values::values_of(s, frame_of(frame));
+    put_values(v, kind, bits);
     match v {
-        Values::Are(f) => {
-            *out = [1];
-            put_frame(f, kind, bits);
-            0
-        }
-        Values::Nothing => {
-            *out = [0];
-            *kind = [0; 32];
-            *bits = [0; 32];
-            0
-        }
+        Values::Are(_) => *out = [1],
+        Values::Nothing => *out = [0],
     }
+    0
 }

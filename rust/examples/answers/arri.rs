@@ -85,19 +85,12 @@ fn put_values(out: &mut Text, v: &FrameValues) {
     out.put(" ts=").or_dash(v.t_stop, put_t_stop);
     out.put(" et=").or_dash(v.exposure_time, put_double);
     out.put(" sa=").or_dash(v.shutter_angle, put_single);
-    out.put(" tr=").or_dash(v.tilt_roll, |out, (tilt, roll)| {
-        put_single(out, tilt);
-        put_single(out.put("/"), roll);
-    });
+    out.put(" tr=").or_dash(v.tilt_roll, put_tilt_roll);
     out.put(" ei=").or_dash(v.exposure_index, put_whole);
     out.put(" wb=").or_dash(v.white_balance, put_whole);
     out.put(" nd=").or_dash(v.nd_density, put_double);
     out.put(" efl=").or_dash(v.effective_focal_length, put_double);
-    out.put(" wbf=").or_dash(v.white_balance_factors, |out, [red, green, blue]| {
-        put_double(out, red);
-        put_double(out.put("/"), green);
-        put_double(out.put("/"), blue);
-    });
+    out.put(" wbf=").or_dash(v.white_balance_factors, put_factors);
     put_encoders(out, &v.encoders);
     out.put(" tint=").or_dash(v.tint, put_double);
     out.put(" fps=").or_dash(v.sensor_rate, put_double);
@@ -111,8 +104,21 @@ fn put_encoders(out: &mut Text, e: &Encoders) {
     }
 }
 
+/// Puts tilt and roll by their bits.
+pub fn put_tilt_roll(out: &mut Text, (tilt, roll): (f32, f32)) {
+    put_single(out, tilt);
+    put_single(out.put("/"), roll);
+}
+
+/// Puts the factors on red, green and blue by their bits.
+pub fn put_factors(out: &mut Text, [red, green, blue]: [f64; 3]) {
+    put_double(out, red);
+    put_double(out.put("/"), green);
+    put_double(out.put("/"), blue);
+}
+
 /// Puts the bits of an f32.
-fn put_single(out: &mut Text, x: f32) {
+pub fn put_single(out: &mut Text, x: f32) {
     out.hex(&x.to_bits().to_be_bytes());
 }
 
@@ -122,12 +128,12 @@ pub fn put_double(out: &mut Text, x: f64) {
 }
 
 /// Puts a whole number.
-fn put_whole(out: &mut Text, n: u32) {
+pub fn put_whole(out: &mut Text, n: u32) {
     out.number(n.into());
 }
 
 /// Puts a distance by its bits.
-fn put_distance(out: &mut Text, distance: Distance) {
+pub fn put_distance(out: &mut Text, distance: Distance) {
     match distance {
         Distance::Metres(x) => put_single(out, x),
         Distance::Infinity => put_single(out, f32::INFINITY),
@@ -135,7 +141,7 @@ fn put_distance(out: &mut Text, distance: Distance) {
 }
 
 /// Puts a T-stop: an f32's bits, or a whole number.
-fn put_t_stop(out: &mut Text, t_stop: TStop) {
+pub fn put_t_stop(out: &mut Text, t_stop: TStop) {
     match t_stop {
         TStop::Is(x) => put_single(out, x),
         TStop::Linear(n) => put_whole(out, n),

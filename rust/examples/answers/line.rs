@@ -8,6 +8,8 @@ const LONGEST: usize = 65_535;
 pub enum Field {
     /// A number, or `n` for the number of bytes.
     End,
+    /// A number, or `n` for the number of the other bytes.
+    OtherEnd,
     /// A number.
     Number,
     /// 0 or 1.
@@ -22,10 +24,12 @@ pub enum Field {
     Script,
     /// The bytes.
     Bytes,
+    /// The bytes of a second file.
+    Other,
 }
 
 /// Every word with its fields.
-pub const WORDS: [(&[u8], &[Field]); 49] = [
+pub const WORDS: [(&[u8], &[Field]); 50] = [
     (b"ber", &[Field::Bytes]),
     (b"walk", &[Field::End, Field::Bytes]),
     (b"step", &[Field::End, Field::Number, Field::Bytes]),
@@ -75,18 +79,20 @@ pub const WORDS: [(&[u8], &[Field]); 49] = [
     (b"arriarrive", &[Field::Number, Field::Bytes]),
     (b"fedsony", &[Field::Number, Field::Digits, Field::Bytes]),
     (b"fedarri", &[Field::Number, Field::Digits, Field::Bytes]),
+    (b"takes", &[Field::End, Field::OtherEnd, Field::Bytes, Field::Other]),
 ];
 
 /// The most fields that a word has.
 const MOST: usize = 5;
 
-/// A case. Numbers that its word has no field for are 0; a label, a list and bytes are empty.
+/// A case. Numbers that its word has no field for are 0; a label, a list, bytes and other bytes are empty.
 pub struct Case<'a> {
     pub word: &'static [u8],
     pub numbers: [usize; 4],
     pub label: [u8; 16],
     pub list: Vec<u64>,
     pub bytes: &'a [u8],
+    pub other: Vec<u8>,
 }
 
 /// The case that a line is, if it is one; `room` holds its bytes.
@@ -104,12 +110,13 @@ pub fn parse<'a>(line: &[u8], room: &'a mut Vec<u8>) -> Option<Case<'a>> {
     if parts.next().is_some() {
         return None;
     }
-    let (mut label, mut list) = ([0; 16], Vec::new());
+    let (mut label, mut list, mut other) = ([0; 16], Vec::new(), Vec::new());
     room.clear();
     for (field, text) in fields.iter().zip(texts) {
         match field {
             Field::Bytes => read_bytes(text, room)?,
             Field::Script => room.extend_from_slice(text),
+            Field::Other => read_bytes(text, &mut other)?,
             Field::Label => label = label_of(text)?,
             Field::List => list = list_of(text)?,
             Field::Digits => list = digits_of(text)?,
@@ -117,11 +124,13 @@ pub fn parse<'a>(line: &[u8], room: &'a mut Vec<u8>) -> Option<Case<'a>> {
         }
     }
     let mut numbers = [0; 4];
-    let texts = fields.iter().zip(texts).filter(|(field, _)| matches!(field, Field::End | Field::Number | Field::Coding));
+    let is_number = |field: &Field| matches!(field, Field::End | Field::OtherEnd | Field::Number | Field::Coding);
+    let texts = fields.iter().zip(texts).filter(|(field, _)| is_number(field));
     for (number, (field, text)) in numbers.iter_mut().zip(texts) {
-        *number = number_of(*field, text, room.len())?;
+        let count = if *field == Field::OtherEnd { other.len() } else { room.len() };
+        *number = number_of(*field, text, count)?;
     }
-    Some(Case { word, numbers, label, list, bytes: room })
+    Some(Case { word, numbers, label, list, bytes: room, other })
 }
 
 /// The label that a field of hex stands for.
@@ -149,7 +158,7 @@ fn digits_of(text: &[u8]) -> Option<Vec<u64>> {
 
 /// The number that a field's text stands for in a case of `count` bytes.
 fn number_of(field: Field, text: &[u8], count: usize) -> Option<usize> {
-    if field == Field::End && text == b"n" {
+    if matches!(field, Field::End | Field::OtherEnd) && text == b"n" {
         return Some(count);
     }
     if !text.iter().all(u8::is_ascii_digit) {

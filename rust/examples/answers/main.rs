@@ -12,6 +12,7 @@ mod line;
 mod outline;
 mod passed;
 mod sony;
+mod takes;
 mod text;
 mod walk;
 mod written;
@@ -107,6 +108,7 @@ fn reply(out: &mut Text, case: &Case) -> std::result::Result<(), Refusal> {
         b"arriarrive" => certain::arri(out, s, a)?,
         b"fedsony" => certain::fed(out, FeedingFrames::sony_limit(a, 0), &case.list, s),
         b"fedarri" => certain::fed(out, FeedingFrames::arri_limit(a, 0), &case.list, s),
+        b"takes" => takes::takes(out, (s, a), (&case.other, b))?,
         _ => unreachable!("the words of line::WORDS are all here"),
     }
     Ok(())
@@ -270,10 +272,30 @@ mod tests {
     }
 
     #[test]
+    fn takes_are_told_apart() {
+        let frame = |tint: &str, distance: &str| {
+            let item = |id: &str, value: &str| format!("060e2b340101010e0e170102{id}0000{:02x}{value}", value.len() / 2);
+            let items = item("0e03", "00000320") + &item("0e06", tint) + &item("0d01", distance);
+            let set = format!("{}{:02x}{items}", "00".repeat(16), items.len() / 2);
+            format!("060e2b34010201010d01030117010f0081{:02x}{set}", set.len() / 2)
+        };
+        let (main, backup) = (frame("00000000", "ffffffff"), frame("80000000", "000003e8"));
+        let report = "0 focus_distance 7f800000 3f800000;0 tint 0000000000000000 8000000000000000;";
+        assert_eq!(answered(&format!("takes n n {main} {backup}")), report);
+        let exchanged = "0 focus_distance 3f800000 7f800000;0 tint 8000000000000000 0000000000000000;";
+        assert_eq!(answered(&format!("takes n n {backup} {main}")), exchanged);
+        assert_eq!(answered(&format!("takes n n {main} {main}")), "-");
+        assert_eq!(answered(&format!("takes n 0 {main} {main}")), "0 only yes -;");
+        assert_eq!(answered(&format!("takes n n 060e2b34024301010d010301040103010100 {main}")), "0 values - yes;");
+        assert_eq!(answered("takes 1 0 - -"), "refused 1");
+        assert_eq!(answered("takes 0 1 - -"), "refused 1");
+    }
+
+    #[test]
     fn every_word_answers_no_bytes() {
         let answers = line::WORDS.map(|(word, fields)| {
             let texts = fields.iter().map(|field| match field {
-                line::Field::Bytes | line::Field::List | line::Field::Script => " -".to_string(),
+                line::Field::Bytes | line::Field::Other | line::Field::List | line::Field::Script => " -".to_string(),
                 line::Field::Label => format!(" {}", "00".repeat(16)),
                 _ => " 0".to_string(),
             });
@@ -284,6 +306,6 @@ mod tests {
         assert_eq!(answers[11..24], [no_values, "", "0,-", "", "", "", "", "", "", "cut", "", "", ""]);
         assert_eq!(answers[24..33], ["|0,0", "|0,0", "-|0,0", "", "", "", "accepted", "refused 7", "refused 6"]);
         assert_eq!(answers[33..40], ["1", "refused 15", "refused 15", "refused 3 4", "refused 3 8", "refused 15", "-"]);
-        assert_eq!(answers[40..], ["|clean", "|clean", "|-", "-", "", "", "", "|clean", "|clean"]);
+        assert_eq!(answers[40..], ["|clean", "|clean", "|-", "-", "", "", "", "|clean", "|clean", "-"]);
     }
 }

@@ -1,26 +1,26 @@
--- `host_values::brine_arri_values` puts each case of what is read.
+-- `host_values::brine_arri_values` puts what is read, and whether it is there.
 use mathlib.Core.Path.{refl, sym}
 use borrow.Author.Needs.{needs}
-use Rattle.host_values.specs.Values.{foundPlaces, valueSlots}
+use Rattle.host_values.specs.Values.{foundPlaces}
 use Rattle.host_values.proofs.brine_arri_values.Statement.{statement}
 use Rattle.host_values.proofs.brine_arri_values.Tie as tie
 
 returns : tie.Need-returns
-unfolding foundPlaces valueSlots
+unfolding foundPlaces
 returns c =
-    let known = c .before .before .before .before .before in
-    let read = known .before .before in
-    rw (sym (read .before .frame-of .ensures), sym (read .values-of .ensures), known .v .given .1) (refl, (refl, c .put-frame .ensures))
+    let put = c .before .before .before in
+    let read = put .before .before .before in
+    rw (sym (read .before .frame-of .ensures), sym (read .values-of .ensures)) (refl, (rw (c .before .enum-told .given .1) refl, put .put-values .ensures))
 
 returns-2 : tie.Need-returns-2
-unfolding foundPlaces valueSlots
+unfolding foundPlaces
 returns-2 c =
-    let known = c .before .before .before in
-    let read = known .before .before in
-    rw (sym (read .before .frame-of .ensures), sym (read .values-of .ensures), known .enum-told .given .1) (refl, (refl, (refl, refl)))
+    let put = c .before .before .before in
+    let read = put .before .before .before in
+    rw (sym (read .before .frame-of .ensures), sym (read .values-of .ensures)) (refl, (rw (c .before .enum-told2 .given .1) refl, put .put-values .ensures))
 
 pub brine-arri-values-spec : {M : Type 1} → statement M
 brine-arri-values-spec =
     tie.close
-    (tie.spec (λ c κs. search needs) (λ c κs. search needs) (λ c. search needs) (λ c κs. search needs) (λ c. search needs)
+    (tie.spec (λ c κs. search needs) (λ c κs. search needs) (λ c κs. search needs) (λ c. search needs) (λ c. search needs)
     returns returns-2)

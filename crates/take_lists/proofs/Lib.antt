@@ -1,0 +1,6 @@
+pub mod Order
+pub mod Reports
+pub mod Stepping
+pub mod Holding
+pub mod Samples
+pub mod Fed

@@ -1,0 +1,5 @@
+pub mod Reports
+pub mod Order
+pub mod Holding
+pub mod Samples
+pub mod Fed
