@@ -7,6 +7,7 @@
 /* What a call answers: its own number, and the arrays that it may write. */
 struct answer {
     uint64_t status, out[BRINE_STATE_FRAMES], kind[BRINE_VALUES], bits[BRINE_VALUES], state[BRINE_STATE_FRAMES];
+    uint64_t other_kind[BRINE_VALUES], other_bits[BRINE_VALUES];
     size_t firsts[BRINE_GROUPS], counts[BRINE_GROUPS];
     int64_t positions[BRINE_POSITION_PLACES];
     uint8_t label[BRINE_LABEL];
@@ -48,6 +49,7 @@ CALL(feed_frame, a.state, p, 0, a.label, a.out)
 CALL(of_dynamic, p, 0, a.kind, a.bits)
 CALL(of_alexa35, p, 0, a.kind, a.bits)
 CALL(arri_values, p, 0, frame, a.out, a.kind, a.bits)
+CALL(takes_step, p, 0, 0, p, 0, 0, 0, 0, 0, a.out, a.kind, a.bits, a.other_kind, a.other_bits)
 CALL(package, p, 0, 0, 0, a.out)
 CALL(camera, p, 0, a.kind, a.bits)
 CALL(sequence, p, 0, a.out, a.positions)
@@ -77,7 +79,7 @@ static const struct {
     ROW(length), ROW(same_label), ROW(next_key), ROW(step), ROW(arrive), ROW(records), ROW(arrivals), ROW(tally), ROW(feed),
     ROW(feed_records), ROW(run), ROW(item), ROW(outline), ROW(header), ROW(primer), ROW(primer_table), ROW(primer_in), ROW(arri_block),
     ROW(payload), ROW(line), ROW(descriptor), ROW(sony_step), ROW(arri_step), ROW(canon_step), ROW(sony_arrive), ROW(arri_arrive), ROW(feed_frame),
-    ROW(of_dynamic), ROW(of_alexa35), ROW(arri_values), ROW(package), ROW(camera), ROW(sequence), ROW(strict), ROW(random_index),
+    ROW(of_dynamic), ROW(of_alexa35), ROW(arri_values), ROW(package), ROW(camera), ROW(sequence), ROW(strict), ROW(random_index), ROW(takes_step),
     ROW(pair), ROW(put_length), ROW(put_klv), ROW(rewrite), ROW(put_item), ROW(put_primer), ROW(put_pack), ROW(group),
     ROW(index_add), ROW(index_find), ROW(index_columns), ROW(index_rows), ROW(shared_set_up), ROW(shared_add), ROW(shared_find),
 };

@@ -14,6 +14,8 @@
 //! # Ok::<(), brinethimble::Refusal>(())
 //! ```
 
+use core::iter::FusedIterator;
+
 use crate::boundary::{self, TakesStep};
 use crate::record::Refusal;
 use crate::values::FrameValues;
@@ -236,6 +238,8 @@ impl Iterator for Takes<'_> {
         (found == 1).then_some(Difference { number, apart })
     }
 }
+
+impl FusedIterator for Takes<'_> {}
 
 #[cfg(test)]
 mod tests {

@@ -208,5 +208,6 @@ fn iterators_stay_at_their_end() {
         assert!(stays_at_its_end(klvs(s)) && stays_at_its_end(lines(s)) && stays_at_its_end(package_metadata(s)));
         assert!([Coding::TWO, Coding::BER, Coding::ONE].into_iter().all(|coding| stays_at_its_end(local_items(s, coding))));
         assert!(RandomIndex::of(s).map_or(true, stays_at_its_end));
+        assert!(stays_at_its_end(Takes::new(s, end, s, s.len()).unwrap()));
     });
 }

@@ -6,6 +6,7 @@
 
 mod cameras;
 mod check;
+mod diff;
 mod frames;
 mod list;
 mod outline;
@@ -74,7 +75,7 @@ struct Command {
     run: fn(&Asked, &mut Out) -> Done,
 }
 
-const COMMANDS: [Command; 6] = [
+const COMMANDS: [Command; 7] = [
     Command {
         name: "list",
         files: 1,
@@ -98,6 +99,7 @@ const COMMANDS: [Command; 6] = [
         run: check::run,
     },
     Command { name: "partitions", files: 1, options: &[], about: "the partitions that the random index pack names", run: partitions::run },
+    Command { name: "diff", files: 2, options: &[], about: "where the frames of two recordings of one take are apart", run: diff::run },
     Command { name: "receive", files: 1, options: &["--limit"], about: "records and frames of an upload as they come", run: receive::run },
 ];
 
@@ -105,14 +107,14 @@ fn help() -> String {
     let commands: String = COMMANDS.iter().map(|Command { name, about, .. }| format!("  {name:<11} {about}\n")).collect();
     format!(
         "brine COMMAND [OPTION ..] [FILE]\n\n{commands}\n\
-         FILE may have any size; without one, or for -, standard input is read.\n\n\
+         FILE may have any size; without one, or for -, standard input is read. diff takes two.\n\n\
          \x20 --json              a JSON object a line instead of text\n\
          \x20 --camera CAMERA     frames: sony, arri or canon; else the first that is found\n\
          \x20 --payload           frames: the payload of Sony's and Canon's frames, in hex\n\
          \x20 --depth N           outline: 1 to 8 levels; 8 where it is not named\n\
          \x20 --limit N           receive: an upload has at most so many bytes\n\
          \x20 --help, --version\n\n\
-         Exit status: 0; 1 where a file is refused or ends within a value; 2 where it can't be read, or a word is not understood."
+         Exit status: 0; 1 where a file is refused, is apart or ends within a value; 2 where it can't be read, or a word is not understood."
     )
 }
 

@@ -16,6 +16,24 @@ enum Said {
 pub struct Values(Vec<(&'static str, Said)>);
 
 impl Values {
+    pub fn has(&self, name: &str) -> bool {
+        self.0.iter().any(|(known, _)| *known == name)
+    }
+
+    /// The value of a name, as text or as JSON has it; `-` or `null` where there is none.
+    pub fn shown(&self, name: &str, json: bool) -> String {
+        let quoted = |text: String| if json { format!("\"{text}\"") } else { text };
+        match self.0.iter().find(|(known, _)| *known == name) {
+            None => String::from(if json { "null" } else { "-" }),
+            Some((_, Said::Whole(number))) => number.to_string(),
+            Some((_, Said::Single(x))) if x.is_finite() => x.to_string(),
+            Some((_, Said::Double(x))) if x.is_finite() => x.to_string(),
+            Some((_, Said::Single(x))) => quoted(x.to_string()),
+            Some((_, Said::Double(x))) => quoted(x.to_string()),
+            Some((_, Said::Text(text))) => quoted(text.clone()),
+        }
+    }
+
     pub fn put(self, line: Line) -> Line {
         self.0.into_iter().fold(line, |line, (name, value)| match value {
             Said::Whole(number) => line.named(name, number),

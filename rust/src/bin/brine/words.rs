@@ -85,6 +85,7 @@ fn chosen(mut asked: Asked, plain: Vec<OsString>, given: &[String]) -> Result<Wo
     asked.files = plain.map(PathBuf::from).collect();
     match asked.files.get(command.files) {
         Some(more) => Err(format!("{} is a file too many for {name}", more.display())),
+        None if command.files > 1 && asked.files.len() < command.files => Err(format!("{name} takes {} files", command.files)),
         None => Ok(Words::Command(command, asked)),
     }
 }
