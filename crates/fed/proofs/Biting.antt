@@ -24,7 +24,7 @@ use Rattle.steps.specs.Passed.{Passed}
 use Rattle.fed_bytes.specs.Eat.{turned, turnOf}
 use Rattle.fed_bytes.specs.Feed.{Taken, took, after, upTo, eats}
 use Rattle.fed_bytes.specs.Fill.{filled}
-use Rattle.fed_bytes.proofs.Laws.{Room, turned-room, turn-case}
+use Rattle.fed_bytes.proofs.Laws.{Room, turned-room, Turned, cut, none, whole, waits, late, turn-case}
 use Rattle.fed_bytes.proofs.Coming.{Comes, comes-cut, comes-waits, comes-none, comes-late, comes-record}
 use Rattle.fed.specs.declared.Answer.{Answer}
 use Rattle.fed.specs.declared.Answer.the-variants.{Nothing, Record, TooMuch, Closed}
@@ -81,6 +81,15 @@ module _ (st : State) (piece : List ℕ) (i : ℕ) (r : Fed) (b : Bitten st piec
       sym (no-record (r .state .label) (r .answer) (r .state) (λ s. eats s (drop (r .taken) piece) (r .taken)) (r .taken) o)
       ∙ sym (onward-is piece (r .state .label) (r .answer) (r .state) (r .taken)) ∙ b .goes
 
+-- the walk stays open
+turned-live : (st : State) (r : ToldAt State (Passed Item)) → Turned st r → after r .live ≡ st .live
+unfolding after
+turned-live st r (cut l) = refl
+turned-live st r (none l) = refl
+turned-live st r (whole f l m) = refl
+turned-live st r (waits f l m n) = refl
+turned-live st r (late f l m n) = refl
+
 -- The bytes of a piece from i on, behind a key's start
 
 module _ (st : State) (piece : List ℕ) (i : ℕ) (inside : i < length piece) (fits : st .at + st .have + (length piece - i) ≤ st .limit) (four : 4 ≤ st .have) where
@@ -109,6 +118,7 @@ module _ (st : State) (piece : List ℕ) (i : ℕ) (inside : i < length piece) (
         up = omega arith;
         most = omega arith;
         same = ap (λ (x : State). x .limit) s;
+        live = ap (λ (x : State). x .live) s;
         fits = omega (arith, ap (λ (x : State). x .at) s, ap (λ (x : State). x .have) s);
         goes = ap (onward piece) e ∙ sym (rw z at g);
       }
@@ -125,6 +135,7 @@ module _ (st : State) (piece : List ℕ) (i : ℕ) (inside : i < length piece) (
         up = omega arith;
         most = omega arith;
         same = r .same;
+        live = rw (after-told (x .state .label) (x .answer) (x .state)) at (rw (sym is) at (turned-live (having kept e) _ (turn-case (having kept e))));
         fits = r .fits;
         goes = onward-is piece (x .state .label) (x .answer) (x .state) m ∙ ap (upTo (λ s. eats s (drop m piece) m) m) is ∙ sym g;
       }

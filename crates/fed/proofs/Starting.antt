@@ -68,6 +68,7 @@ next-bitten st piece i h f m b s e =
       up = omega arith;
       most = omega arith;
       same = ap (λ (x : State). x .limit) e;
+      live = ap (λ (x : State). x .live) e;
       fits = omega (arith, ap (λ (x : State). x .at) e, ap (λ (x : State). x .have) e);
       goes = ap (λ (x : State). eats x (drop (i + 1) piece) (i + 1)) e ∙ sym (takes-nothing st piece i i h (sought st (st .at) (st .have + 1)) (goes-on st (getD piece i 0) b m));
     }

@@ -1,5 +1,4 @@
-// The fed walker: docs/RULES.md, "L2. A walker fed from the socket". Each call takes the piece up to the byte that completes a
-// record and answers that record, else takes all of it.
+// The fed walker: docs/RULES.md, "L2. A walker fed from the socket".
 ghost use mathlib.Core.Path.{_≡_};
 ghost use mathlib.Core.Bool.{false};
 ghost use Prim.Native.Nat.{_+_, _-_, _≤_, _<_, max};
@@ -9,7 +8,7 @@ ghost use Rattle.fed_bytes.specs.Eat.{turnOf, turned};
 ghost use Rattle.fed_bytes.specs.Feed.{took, eats, feedOf};
 ghost use Rattle.fed_bytes.specs.Fill.{filled, keptFrom};
 ghost use Rattle.fed.specs.Told.{eatenTold, fedTold};
-ghost use Rattle.fed.specs.Parts.{startsOf, having, dueOf, Bitten};
+ghost use Rattle.fed.specs.Parts.{startsOf, breaksOf, searchesOf, having, dueOf, restOf, Bitten, Reached};
 ghost use Rattle.steps.specs.Told.{nothing};
 use fed_states::State;
 use fed_states::gone_on;
@@ -31,9 +30,8 @@ pub enum Answer {
     Nothing,
     // The last byte taken completes this record, whose label is the state's; so many bytes were passed before it.
     Record(Klv, usize),
-    // Refusal 2: the piece would pass the limit or the end.
+    // Refusals 2, the piece would pass the limit or the end, and 5, the walk is closed.
     TooMuch,
-    // Refusal 5: the walk is closed.
     Closed,
 }
 
@@ -50,7 +48,6 @@ pub struct Eaten {
     pub answer: Answer,
 }
 
-// The larger of two.
 fn larger(a: usize, b: usize) -> usize
     ensures { λ r. ⌜ r ≡ max a b ⌝ }
 {
@@ -68,6 +65,43 @@ fn starts(have: usize, b: u8) -> bool
         return false;
     }
     b != KEY_START[have]
+}
+
+// How many bytes of a piece come before one at which a search starts: all of them where a key's start comes whole before it.
+fn breaks(have: usize, piece: &[u8]) -> usize
+    ensures { λ r. ⌜ r ≡ breaksOf have (now (piece .entry)) ⌝ }
+{
+    let mut i = 0;
+    while i < piece.len() {
+        if 4 <= have + i {
+            return piece.len();
+        }
+        if starts(have + i, piece[i]) {
+            return i;
+        }
+        i += 1;
+    }
+    i
+}
+
+// The same of a piece that may come: all of it where it may not, or the walk is closed.
+pub fn searches(live: bool, limit: usize, at: usize, have: usize, piece: &[u8]) -> usize
+    ensures { λ r. ⌜ r ≡ searchesOf live limit at have (now (piece .entry)) ⌝ }
+{
+    if !live {
+        return piece.len();
+    }
+    if limit < at {
+        return piece.len();
+    }
+    let room = limit - at;
+    if room < have {
+        return piece.len();
+    }
+    if room - have < piece.len() {
+        return piece.len();
+    }
+    breaks(have, piece)
 }
 
 // A state with so many bytes of a piece more, which are kept: of a label, and of the nine bytes behind it.
@@ -101,6 +135,16 @@ fn fill(st: State, piece: &[u8], i: usize, m: usize) -> State
     }
 }
 
+// A byte of which nothing comes.
+fn silent(st: State) -> Eaten
+    ensures { λ r. ⌜ eatenTold r ≡ nothing st ⌝ }
+{
+    Eaten {
+        state: st,
+        answer: Answer::Nothing,
+    }
+}
+
 // Rules 3 and 4 at the key's place, with the bytes that have come.
 fn turn(st: State) -> Eaten
     requires { ⌜ st .at + st .have ≤ st .limit ⌝ }
@@ -110,17 +154,11 @@ fn turn(st: State) -> Eaten
     let at = st.at;
     let l = length_of(st);
     if let Length::Cut = l {
-        return Eaten {
-            state: st,
-            answer: Answer::Nothing,
-        };
+        return silent(st);
     }
     let Length::Is(f) = l else {
         let next = at + 17;
-        return Eaten {
-            state: sought(st, next, 0),
-            answer: Answer::Nothing,
-        };
+        return silent(sought(st, next, 0));
     };
     let n = f.value;
     let v = at + 16 + f.size;
@@ -141,15 +179,9 @@ fn turn(st: State) -> Eaten
         };
     }
     if n <= (st.limit - v) as u64 {
-        return Eaten {
-            state: st,
-            answer: Answer::Nothing,
-        };
+        return silent(st);
     }
-    Eaten {
-        state: sought(st, v, 0),
-        answer: Answer::Nothing,
-    }
+    silent(sought(st, v, 0))
 }
 
 // All bytes of a piece taken, of which nothing comes.
@@ -248,6 +280,22 @@ fn keep(st: State, here: usize, s: &[u8], w: usize) -> State
     sought(st, here + q, s.len() - q)
 }
 
+// What is kept of the bytes behind a state, where the walk waits at w: the state itself where they may not come.
+pub fn rest(st: State, s: &[u8], w: usize) -> State
+    ensures { λ r. ⌜ r ≡ restOf st (now (s .entry)) w ⌝ }
+{
+    if st.limit < st.at {
+        return st;
+    }
+    if st.limit - st.at < s.len() {
+        return st;
+    }
+    if s.len() < w {
+        return st;
+    }
+    keep(st, st.at, s, w)
+}
+
 // The bytes of a piece from one on at which a search starts: the piece itself is a buffer, and the walk's step reads it.
 fn walk_on(st: State, piece: &[u8], i: usize) -> Fed
     requires { ⌜ i ≤ length (now piece) ⌝ }
@@ -289,9 +337,9 @@ fn walk_on(st: State, piece: &[u8], i: usize) -> Fed
     }
 }
 
-// Takes the piece up to the byte that completes a record, else all of it.
-pub fn feed(st: State, piece: &[u8]) -> Fed
-    ensures { λ r. ⌜ fedTold r ≡ feedOf st (now (piece .entry)) ⌝ }
+// Takes the piece up to the byte that completes a record, or before which a search starts.
+pub fn reach(st: State, piece: &[u8]) -> Fed
+    ensures { λ r. ⌜ Reached st (now (piece .entry)) r ⌝ }
 {
     if !sound(st) {
         return Fed {
@@ -311,7 +359,11 @@ pub fn feed(st: State, piece: &[u8]) -> Fed
     let mut i = 0;
     while i < piece.len() {
         if starts(s.have, piece[i]) {
-            return walk_on(s, piece, i);
+            return Fed {
+                state: s,
+                taken: i,
+                answer: Answer::Nothing,
+            };
         }
         let f = next(s, piece, i);
         i = f.taken;
@@ -330,4 +382,18 @@ pub fn feed(st: State, piece: &[u8]) -> Fed
         taken: i,
         answer: Answer::Nothing,
     }
+}
+
+// Takes the piece up to the byte that completes a record, else all of it.
+pub fn feed(st: State, piece: &[u8]) -> Fed
+    ensures { λ r. ⌜ fedTold r ≡ feedOf st (now (piece .entry)) ⌝ }
+{
+    let f = reach(st, piece);
+    let a = f.answer;
+    if let Answer::Nothing = a {
+        if f.taken < piece.len() {
+            return walk_on(f.state, piece, f.taken);
+        }
+    }
+    f
 }

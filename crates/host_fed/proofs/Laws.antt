@@ -1,33 +1,43 @@
 -- What a call says decides the status and the lent arrays.
 use Prim.Native.Nat.{ℕ}
-use mathlib.Core.Path.{_≡_, refl, sym}
+use mathlib.Core.Path.{_≡_, refl, sym, _∙_}
 use mathlib.Core.List.{List, [], _∷_}
 use Rattle.steps.specs.Told.{ToldAt, found, nothing, refused, number}
 use Rattle.steps.specs.Passed.{Passed}
 use Rattle.klv.specs.Item.{Item}
 use Rattle.fed_states.specs.declared.State.{State}
 use Rattle.fed_states.specs.Close.{Rest}
-use Rattle.fed_bytes.specs.Feed.{Taken}
-use Rattle.host_fed_states.specs.Places.{statePlaces}
-use Rattle.host_fed.specs.Places.{stateAfter, labelAfter, recordPlaces, feedPlaces, closed, closePlaces}
+use Rattle.fed_bytes.specs.Feed.{Taken, feedOf}
+use Rattle.host_fed_states.specs.Places.{stateOf, statePlaces}
+use Rattle.host_fed_states.proofs.Searches.{Starts}
+use Rattle.host_fed.specs.declared.Start.{Start}
+use Rattle.host_fed.specs.Begun.{Begun}
+use Rattle.host_fed.specs.Places.{stateAfter, labelAfter, recordPlaces, feedPlaces, Answers, closed, closePlaces}
 
 -- Feeding: the status, and the state, the label and the places after it
 
 module _ (t : ToldAt Taken (Passed Item)) (state label out : List ℕ) where
-  abbrev pub Answered : ℕ → List ℕ → List ℕ → List ℕ → Type 0
-  Answered r s l o = (r ≡ number t) × ((s ≡ stateAfter state t) × ((l ≡ labelAfter label t) × (o ≡ feedPlaces out t)))
-
-  pub is-found : (a : Passed Item) (k : Taken) → found a k ≡ t → Answered 0 (statePlaces (k .state)) (a .it .key) (recordPlaces (k .taken) (a .it .klv) (a .passed))
-  unfolding number stateAfter labelAfter feedPlaces
+  pub is-found : (a : Passed Item) (k : Taken) → found a k ≡ t → Answers 0 t state label out (statePlaces (k .state)) (a .it .key) (recordPlaces (k .taken) (a .it .klv) (a .passed))
+  unfolding Answers number stateAfter labelAfter feedPlaces
   is-found a k e = rw (sym e) (refl, (refl, (refl, refl)))
 
-  pub is-nothing : (k : Taken) → nothing k ≡ t → Answered 0 (statePlaces (k .state)) label (0 ∷ k .taken ∷ 0 ∷ 0 ∷ 0 ∷ 0 ∷ 0 ∷ 0 ∷ [])
-  unfolding number stateAfter labelAfter feedPlaces
+  pub is-nothing : (k : Taken) → nothing k ≡ t → Answers 0 t state label out (statePlaces (k .state)) label (0 ∷ k .taken ∷ 0 ∷ 0 ∷ 0 ∷ 0 ∷ 0 ∷ 0 ∷ [])
+  unfolding Answers number stateAfter labelAfter feedPlaces
   is-nothing k e = rw (sym e) (refl, (refl, (refl, refl)))
 
-  pub is-refused : (n : ℕ) (k : Taken) → refused n k ≡ t → Answered n state label out
-  unfolding number stateAfter labelAfter feedPlaces
+  pub is-refused : (n : ℕ) (k : Taken) → refused n k ≡ t → Answers n t state label out state label out
+  unfolding Answers number stateAfter labelAfter feedPlaces
   is-refused n k e = rw (sym e) (refl, (refl, (refl, refl)))
+
+-- The first part of a call
+
+module _ (st : State) (piece state label out : List ℕ) (b : Start) where
+  -- it ends with a status
+  pub begun-ends : {s l o : List ℕ} (n : ℕ) → b .status ≡ n → (n ≡ 1 → ⊥) → Answers n (feedOf st piece) state label out s l o → Begun st piece b state label out s l o
+  begun-ends n e o x = record { ends = λ m. rw e x; searches = λ y. absurd (o (sym e ∙ y)); same = λ y. absurd (o (sym e ∙ y)) }
+
+  pub begun-searches : {s : List ℕ} → b .status ≡ 1 → Starts st piece (stateOf s) (b .at) (b .taken) → Begun st piece b state label out s label out
+  begun-searches e x = record { ends = λ n. absurd (n e); searches = λ m. x; same = λ m. (refl, refl) }
 
 -- Closing
 

@@ -1,7 +1,6 @@
 -- What the lent arrays hold after a call of the fed walker: include/brinethimble.h. A refusal leaves them as they were.
 use Prim.Native.Nat.{ℕ}
 use mathlib.Core.Path.{_≡_}
-use mathlib.Core.Bool.{Bool, true, false}
 use mathlib.Core.List.{List, [], _∷_}
 use Rattle.steps.specs.Told.{ToldAt, found, nothing, refused, number}
 use Rattle.steps.specs.Passed.{Passed}
@@ -35,10 +34,9 @@ feedPlaces out (found a k) = recordPlaces (k .taken) (a .it .klv) (a .passed)
 feedPlaces out (nothing k) = 0 ∷ k .taken ∷ 0 ∷ 0 ∷ 0 ∷ 0 ∷ 0 ∷ 0 ∷ []
 feedPlaces out (refused n k) = out
 
--- a part of a call that ends it, or leaves all as it was
-unfoldable pub Begun : Bool → ToldAt Taken (Passed Item) → List ℕ → List ℕ → List ℕ → List ℕ → List ℕ → List ℕ → Type 0
-Begun true t state label out s l o = (0 ≡ number t) × ((s ≡ stateAfter state t) × ((l ≡ labelAfter label t) × (o ≡ feedPlaces out t)))
-Begun false t state label out s l o = (s ≡ state) × (l ≡ label) × (o ≡ out)
+-- what a call leaves that answers r and says t: the status, the state, the label and the places
+unfoldable pub Answers : ℕ → ToldAt Taken (Passed Item) → List ℕ → List ℕ → List ℕ → List ℕ → List ℕ → List ℕ → Type 0
+Answers r t state label out s l o = (r ≡ number t) × ((s ≡ stateAfter state t) × ((l ≡ labelAfter label t) × (o ≡ feedPlaces out t)))
 
 -- closing: the state, and 1 for clean, or 2 with where a new walk is to be fed from and its known end
 unfoldable pub closed : List ℕ → ToldAt State Rest → List ℕ

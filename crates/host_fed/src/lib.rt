@@ -2,24 +2,35 @@
 // Nothing of a made-up array is trusted.
 ghost use mathlib.Core.Path.{_≡_};
 ghost use mathlib.Core.Bool.{true, false};
+ghost use mathlib.Core.List.{List};
+ghost use Prim.Native.Nat.{ℕ, _+_, _-_, _≤_};
+ghost use lib.ListN.{length, drop};
 ghost use Rattle.steps.specs.Told.{number};
-ghost use Rattle.fed_states.specs.State.{opened};
+ghost use Rattle.fed_states.specs.State.{opened, sought};
 ghost use Rattle.fed_states.specs.Close.{closeOf};
-ghost use Rattle.fed_bytes.specs.Feed.{feedOf};
+ghost use Rattle.fed_bytes.specs.Feed.{eats, feedOf};
 ghost use Rattle.host_fed_states.specs.Places.{stateOf, statePlaces};
-ghost use Rattle.host_fed.specs.Places.{stateAfter, labelAfter, feedPlaces, Begun, closed, closePlaces};
+ghost use Rattle.host_fed_states.proofs.Values.{Tells};
+ghost use Rattle.host_fed.specs.Places.{stateAfter, labelAfter, feedPlaces, Answers, closed, closePlaces};
+ghost use Rattle.host_fed.specs.Begun.{Begun};
 use fed::Answer;
-use fed::feed;
+use fed::reach;
 use fed_states::Ending;
 use fed_states::close;
-use fed_states::gone_on;
 use fed_states::label_at;
 use fed_states::open_end;
 use fed_states::open_limit;
-use fed_states::sought;
-use fed_states::sound;
+use host_fed_states::Value;
+use host_fed_states::label_in;
+use host_fed_states::limit_of;
+use host_fed_states::put_behind;
+use host_fed_states::put_done;
+use host_fed_states::put_having;
+use host_fed_states::put_rest;
 use host_fed_states::put_state;
+use host_fed_states::starting;
 use host_fed_states::state_of;
+use host_fed_states::waited;
 use host_numbers::mark;
 use parts::saturating_sub;
 use walk::Cursor;
@@ -45,39 +56,153 @@ pub extern "C" fn brine_fed_end(end: usize, state: &mut [u64; 10]) -> u32
     0
 }
 
-// Whether a piece comes to a record, or to no key, where no byte of a key has come before it; it is put then. Such a piece is a buffer
-// that the walk's own step reads, and no state goes from call to call but in the host's own places.
-fn begin(state: &mut [u64; 10], piece: &[u8], label: &mut [u8; 16], out: &mut [u64; 8]) -> bool
-    ensures { λ r. ⌜ Begun r (feedOf (stateOf (now (state .entry))) (now (piece .entry))) (now (state .entry)) (now (label .entry)) (now (out .entry)) (now (state .exit)) (now (label .exit)) (now (out .exit)) ⌝ }
+// What a piece comes to before a search: the call's status where it ends there, or SEARCHES, the place of the stream where a search
+// starts, and how many bytes were taken before it.
+pub struct Start {
+    pub at: usize,
+    pub taken: usize,
+    pub status: u32,
+}
+
+const SEARCHES: u32 = 1;
+
+// Where the call ends.
+fn ended(status: u32) -> Start
+    ensures { λ r. ⌜ r .status ≡ status ⌝ }
 {
-    let st = state_of(state);
-    if !sound(st) {
-        return false;
+    Start {
+        at: 0,
+        taken: 0,
+        status,
     }
-    if st.have != 0 {
-        return false;
+}
+
+// Takes the bytes before a search by way of the state.
+fn resume(state: &mut [u64; 10], piece: &[u8], label: &mut [u8; 16], out: &mut [u64; 8]) -> Start
+    ensures { λ r. ⌜ Begun (stateOf (now (state .entry))) (now (piece .entry)) r (now (state .entry)) (now (label .entry)) (now (out .entry)) (now (state .exit)) (now (label .exit)) (now (out .exit)) ⌝ }
+{
+    let f = reach(state_of(state), piece);
+    let st = f.state;
+    let taken = f.taken;
+    let a = f.answer;
+    match a {
+        Answer::Record(k, passed) => {
+            let shortest = mark(k.shortest);
+            let key = st.label;
+            *label = key;
+            *out = [
+                1,
+                taken as u64,
+                k.at as u64,
+                k.value as u64,
+                k.len as u64,
+                k.size as u64,
+                shortest,
+                passed as u64,
+            ];
+            put_state(st, state);
+            ended(0)
+        }
+        Answer::Nothing => {
+            if taken < piece.len() {
+                let at = st.at + st.have;
+                put_state(st, state);
+                return Start {
+                    at,
+                    taken,
+                    status: SEARCHES,
+                };
+            }
+            *out = [0, taken as u64, 0, 0, 0, 0, 0, 0];
+            put_state(st, state);
+            ended(0)
+        }
+        Answer::TooMuch => ended(2),
+        Answer::Closed => ended(5),
     }
-    if piece.len() == 0 {
-        return false;
+}
+
+// Takes a piece where a value is waited for: all of it, or up to the value's end.
+fn within(v: Value, state: &mut [u64; 10], piece: &[u8], label: &mut [u8; 16], out: &mut [u64; 8])
+    requires { ⌜ Tells (stateOf (now state)) (length (now piece)) v ⌝ }
+    ensures { λ r. ⌜ Answers 0 (feedOf (stateOf (now (state .entry))) (now (piece .entry))) (now (state .entry)) (now (label .entry)) (now (out .entry)) (now (state .exit)) (now (label .exit)) (now (out .exit)) ⌝ }
+{
+    let have = state[4] as usize;
+    let n = piece.len();
+    let left = v.due - have;
+    if n < left {
+        *out = [0, n as u64, 0, 0, 0, 0, 0, 0];
+        put_having(state, have + n);
+        return;
     }
-    let here = st.at + st.have;
-    if st.limit - here < piece.len() {
-        return false;
+    let k = v.klv;
+    let shortest = mark(k.shortest);
+    let passed = saturating_sub(k.at, state[5] as usize);
+    *label = label_in(state);
+    *out = [
+        1,
+        left as u64,
+        k.at as u64,
+        k.value as u64,
+        k.len as u64,
+        k.size as u64,
+        shortest,
+        passed as u64,
+    ];
+    put_done(state, v.next);
+}
+
+// The first part of a call. Most end, or come to a search, without a state being made of the numbers.
+fn begin(state: &mut [u64; 10], piece: &[u8], label: &mut [u8; 16], out: &mut [u64; 8]) -> Start
+    ensures { λ r. ⌜ Begun (stateOf (now (state .entry))) (now (piece .entry)) r (now (state .entry)) (now (label .entry)) (now (out .entry)) (now (state .exit)) (now (label .exit)) (now (out .exit)) ⌝ }
+{
+    let b = starting(state, piece);
+    if b.taken < piece.len() {
+        return Start {
+            at: b.at,
+            taken: b.taken,
+            status: SEARCHES,
+        };
     }
-    let whole = &piece[0..];
-    let t = Cursor { at: 0, since: 0 }.arrive(whole, st.limit - here);
+    let v = waited(state, piece.len());
+    if v.due == 0 {
+        return resume(state, piece, label, out);
+    }
+    within(v, state, piece, label, out);
+    ended(0)
+}
+
+// Takes a piece from one of its bytes on, at a place of the stream where a search starts: it is a buffer that the walk's own step
+// reads.
+fn walk(
+    here: usize,
+    piece: &[u8],
+    i: usize,
+    state: &mut [u64; 10],
+    label: &mut [u8; 16],
+    out: &mut [u64; 8],
+)
+    requires { ⌜ i ≤ length (now piece) ⌝ }
+    requires { ⌜ here + (length (now piece) - i) ≤ stateOf (now state) .limit ⌝ }
+    ensures { λ r. ⌜ ((x : List ℕ) → Answers 0 (eats (sought (stateOf (now (state .entry))) here 0) (drop i (now (piece .entry))) i) x (now (label .entry)) (now (out .entry)) (now (state .exit)) (now (label .exit)) (now (out .exit))) ⌝ }
+{
+    let since = state[5] as usize;
+    let limit = limit_of(state);
+    let tail = &piece[i..];
+    let t = Cursor { at: 0, since: 0 }.arrive(tail, limit - here);
     match t {
         Step::Record(k, _, c) => {
             let at = here + k.at;
             let value = here + k.value;
             let next = here + c.at;
+            let taken = i + c.at;
             let shortest = mark(k.shortest);
-            let passed = saturating_sub(at, st.since);
-            let key = label_at(whole, k.at);
+            let passed = saturating_sub(at, since);
+            let key = label_at(tail, k.at);
             *label = key;
             *out = [
                 1,
-                c.at as u64,
+                taken as u64,
                 at as u64,
                 value as u64,
                 k.len as u64,
@@ -85,21 +210,13 @@ fn begin(state: &mut [u64; 10], piece: &[u8], label: &mut [u8; 16], out: &mut [u
                 shortest,
                 passed as u64,
             ];
-            put_state(gone_on(st, next, key), state);
-            true
+            put_behind(state, next, tail, k.at);
         }
         Step::Rests(c) => {
-            if search::next_key(whole, whole.len(), c.at) < whole.len() {
-                return false;
-            }
-            let q = search::wait_from(whole, c.at);
-            let at = here + q;
-            let have = whole.len() - q;
             *out = [0, piece.len() as u64, 0, 0, 0, 0, 0, 0];
-            put_state(sought(st, at, have), state);
-            true
+            put_rest(state, here, since, tail, c.at);
         }
-        Step::Refused => false,
+        Step::Refused => (),
     }
 }
 
@@ -116,38 +233,12 @@ pub extern "C" fn brine_feed(
     ensures { λ r. ⌜ now (label .exit) ≡ labelAfter (now (label .entry)) (feedOf (stateOf (now (state .entry))) (now (piece .entry))) ⌝ }
     ensures { λ r. ⌜ now (out .exit) ≡ feedPlaces (now (out .entry)) (feedOf (stateOf (now (state .entry))) (now (piece .entry))) ⌝ }
 {
-    if begin(state, piece, label, out) {
-        return 0;
+    let b = begin(state, piece, label, out);
+    if b.status != SEARCHES {
+        return b.status;
     }
-    let f = feed(state_of(state), piece);
-    let a = f.answer;
-    match a {
-        Answer::Record(k, passed) => {
-            let shortest = mark(k.shortest);
-            let st = f.state;
-            let key = st.label;
-            *label = key;
-            *out = [
-                1,
-                f.taken as u64,
-                k.at as u64,
-                k.value as u64,
-                k.len as u64,
-                k.size as u64,
-                shortest,
-                passed as u64,
-            ];
-            put_state(st, state);
-            0
-        }
-        Answer::Nothing => {
-            *out = [0, f.taken as u64, 0, 0, 0, 0, 0, 0];
-            put_state(f.state, state);
-            0
-        }
-        Answer::TooMuch => 2,
-        Answer::Closed => 5,
-    }
+    walk(b.at, piece, b.taken, state, label, out);
+    0
 }
 
 // Closes the walk.

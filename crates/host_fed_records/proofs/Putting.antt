@@ -2,6 +2,7 @@
 use Prim.Native.Nat.{ℕ, zero, suc, _+_, _-_, _*_, _≤_, _<_}
 use mathlib.Core.Path.{_≡_, refl, sym, ap, _∙_}
 use mathlib.Core.List.{List, [], _∷_, _++_, append-assoc, append-nil}
+use mathlib.Core.Logic.{⊎-elim}
 use native.Mathlib.Omega.{arith}
 use lib.ListN.{length, length-append}
 use lib.Seq.{sets, length-sets}
@@ -14,7 +15,7 @@ use Rattle.fed_pieces.specs.Pieces.{feedOn}
 use Rattle.fed_pieces.proofs.Going.{Rests}
 use Rattle.host_records.specs.Batch.{placesEach, recordPut, recordsPut}
 use Rattle.host_records.proofs.Laws.{length-put}
-use Rattle.host_fed_records.specs.Many.{labelsPut, Ran}
+use Rattle.host_fed_records.specs.Many.{labelsPut, Ran, Over}
 
 records-append : (l m : List (Passed Item)) (at : ℕ) (lent : List ℕ) → recordsPut (l ++ m) at lent ≡ recordsPut m (at + placesEach * length l) (recordsPut l at lent)
 unfolding recordsPut
@@ -30,12 +31,12 @@ labels-append (c ∷ l) m at lent =
     let e : at + 16 + 16 * length l ≡ at + 16 * suc (length l) = omega arith in
     labels-append l m (at + 16) (sets lent at (c .it .key)) ∙ rw e
 
-records-length : (l : List (Passed Item)) (at : ℕ) (lent : List ℕ) → length (recordsPut l at lent) ≡ length lent
+pub records-length : (l : List (Passed Item)) (at : ℕ) (lent : List ℕ) → length (recordsPut l at lent) ≡ length lent
 unfolding recordsPut
 records-length [] at lent = refl
 records-length (c ∷ l) at lent = records-length l (at + placesEach) (recordPut (c .it .klv) (c .passed) at lent) ∙ length-put (c .it .klv) (c .passed) at lent
 
-labels-length : (l : List (Passed Item)) (at : ℕ) (lent : List ℕ) → length (labelsPut l at lent) ≡ length lent
+pub labels-length : (l : List (Passed Item)) (at : ℕ) (lent : List ℕ) → length (labelsPut l at lent) ≡ length lent
 unfolding labelsPut
 labels-length [] at lent = refl
 labels-length (c ∷ l) at lent = labels-length l (at + 16) (sets lent at (c .it .key)) ∙ length-sets lent at (c .it .key)
@@ -140,3 +141,7 @@ module _ (piece : List ℕ) (most : ℕ) where
         stop (found a j) x = absurd x
         stop (nothing j) x = x
         stop (refused y j) x = x
+
+    -- by either
+    pub ran-over : (e : Taken) → Over piece most q m e → Done k rs ls e m rs′ ls′
+    ran-over e o = ⊎-elim (λ x. rw (x .1) at (ran-full (x .0))) (λ x. ran-rests (x .0) e (x .1)) o

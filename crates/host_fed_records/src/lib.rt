@@ -1,28 +1,36 @@
 // What a host links of the fed walker's lists: as many records of a piece as there is lent room for (include/brinethimble.h).
 ghost use mathlib.Core.Path.{_≡_};
-ghost use Prim.Native.Nat.{_+_, _*_, _^_, _≤_, _<_};
+ghost use Prim.Native.Nat.{_+_, _-_, _*_, _^_, _≤_, _<_};
 ghost use lib.ListN.{length};
 ghost use lib.Seq.{sets};
 ghost use Rattle.steps.specs.Told.{number};
 ghost use Rattle.labels.specs.Label.{labelAt};
-ghost use Rattle.fed_states.specs.State.{sought, goneOn};
 ghost use Rattle.fed_bytes.specs.Feed.{took, feedOf};
 ghost use Rattle.fed_bytes.proofs.Walking.{onward};
 ghost use Rattle.fed_pieces.specs.Pieces.{recordsOf, endOf, Fits};
 ghost use Rattle.host_records.specs.Batch.{placesEach, recordPut, recordsPut};
-ghost use Rattle.host_fed_states.specs.Places.{stateOf};
-ghost use Rattle.host_fed_records.specs.Many.{many, Ran, room, labelsPut, manyState, manyPlaces};
+ghost use Rattle.host_fed_states.specs.Places.{stateOf, seekingOf};
+ghost use Rattle.host_fed_states.proofs.Values.{Tells};
+ghost use Rattle.host_fed_records.specs.Many.{room, labelsPut, manyState, manyPlaces, Ended, Roomless};
+ghost use Rattle.host_fed_records.specs.Begun.{Begun};
 use fed::Answer;
-use fed::feed;
+use fed::reach;
 use fed_pieces::refusal;
-use fed_states::State;
-use fed_states::gone_on;
-use fed_states::sought;
+use host_fed_states::Value;
+use host_fed_states::label_in;
+use host_fed_states::limit_of;
+use host_fed_states::put_behind;
+use host_fed_states::put_done;
+use host_fed_states::put_having;
+use host_fed_states::put_rest;
 use host_fed_states::put_state;
+use host_fed_states::starting;
 use host_fed_states::state_of;
+use host_fed_states::waited;
 use host_numbers::mark;
 use klv::Klv;
 use parts::lesser;
+use parts::saturating_sub;
 use walk::Cursor;
 use walk::Step;
 
@@ -31,12 +39,17 @@ const PLACES_EACH: usize = 6;
 
 const LABEL: usize = 16;
 
-// The state behind some records, how many bytes of the piece were taken, and how many records were put.
-pub struct Many {
-    pub state: State,
+// What a piece comes to before a search: the call's status where it ends there, or SEARCHES, the place of the stream where a search
+// starts, where walking last went on, and how many bytes were taken and records put.
+pub struct Start {
+    pub at: usize,
+    pub since: usize,
     pub taken: usize,
     pub count: usize,
+    pub status: u32,
 }
+
+const SEARCHES: u32 = 1;
 
 // Puts a record's places.
 fn put_record(records: &mut [u64], at: usize, k: Klv, passed: usize)
@@ -104,119 +117,232 @@ fn moved(k: Klv, by: usize) -> Klv
     }
 }
 
-// Behind a record that ends so far behind the state, with a label.
-fn behind(st: State, i: usize, at: usize, label: [u8; 16], count: usize) -> Many
-    requires { ⌜ st .at + at < 2 ^ 64 ⌝ }
-    requires { ⌜ i + at < 2 ^ 64 ⌝ }
-    ensures { λ r. ⌜ r ≡ many (goneOn st (st .at + at) label) (i + at) count ⌝ }
+// Where the call ends.
+fn ended(status: u32) -> Start
+    ensures { λ r. ⌜ r .status ≡ status ⌝ }
 {
-    let next = st.at + at;
-    let taken = i + at;
-    Many {
-        state: gone_on(st, next, label),
-        taken,
-        count,
+    Start {
+        at: 0,
+        since: 0,
+        taken: 0,
+        count: 0,
+        status,
     }
 }
 
-// The same where the walk rests further on.
-fn resting(st: State, i: usize, at: usize, rest: usize, label: [u8; 16], count: usize) -> Many
-    requires { ⌜ st .at + at < 2 ^ 64 ⌝ }
-    requires { ⌜ st .at + rest < 2 ^ 64 ⌝ }
-    requires { ⌜ i + rest < 2 ^ 64 ⌝ }
-    ensures { λ r. ⌜ r ≡ many (sought (goneOn st (st .at + at) label) (st .at + rest) 0) (i + rest) count ⌝ }
+// Takes the bytes before a search by way of the state, and puts the record that they complete.
+fn resume(
+    state: &mut [u64; 10],
+    piece: &[u8],
+    records: &mut [u64],
+    labels: &mut [u8],
+    most: usize,
+    out: &mut [u64; 2],
+) -> Start
+    requires { ⌜ 0 < most ⌝ }
+    requires { ⌜ placesEach * most ≤ length (now records) ⌝ }
+    requires { ⌜ 16 * most ≤ length (now labels) ⌝ }
+    ensures { λ r. ⌜ Begun (stateOf (now (state .entry))) (now (piece .entry)) most r (now (state .entry)) (now (records .entry)) (now (labels .entry)) (now (out .entry)) (now (state .exit)) (now (records .exit)) (now (labels .exit)) (now (out .exit)) ⌝ }
 {
-    let last = st.at + at;
-    let next = st.at + rest;
-    let taken = i + rest;
-    Many {
-        state: sought(gone_on(st, last, label), next, 0),
-        taken,
-        count,
+    let f = reach(state_of(state), piece);
+    let st = f.state;
+    let taken = f.taken;
+    let a = f.answer;
+    match a {
+        Answer::Record(k, passed) => {
+            let label = st.label;
+            put(records, labels, 0, k, passed, label);
+            put_state(st, state);
+            if (1 < most) & (taken < piece.len()) {
+                return Start {
+                    at: st.at,
+                    since: st.since,
+                    taken,
+                    count: 1,
+                    status: SEARCHES,
+                };
+            }
+            *out = [1, taken as u64];
+            ended(0)
+        }
+        Answer::Nothing => {
+            put_state(st, state);
+            if taken < piece.len() {
+                let at = st.at + st.have;
+                return Start {
+                    at,
+                    since: st.since,
+                    taken,
+                    count: 0,
+                    status: SEARCHES,
+                };
+            }
+            *out = [0, taken as u64];
+            ended(0)
+        }
+        Answer::TooMuch => ended(2),
+        Answer::Closed => ended(5),
     }
 }
 
-// Puts the records of a piece from i on, behind n others and up to most. The state is behind a record, so that the rest of the piece
-// is a buffer which the walk's own step reads, and no state goes from record to record.
-fn walk_on(
-    st: State,
+// Takes a piece where a value is waited for: all of it, or up to the value's end, and puts its record.
+fn within(
+    v: Value,
+    state: &mut [u64; 10],
+    piece: &[u8],
+    records: &mut [u64],
+    labels: &mut [u8],
+    most: usize,
+    out: &mut [u64; 2],
+) -> Start
+    requires { ⌜ Tells (stateOf (now state)) (length (now piece)) v ⌝ }
+    requires { ⌜ 0 < most ⌝ }
+    requires { ⌜ placesEach * most ≤ length (now records) ⌝ }
+    requires { ⌜ 16 * most ≤ length (now labels) ⌝ }
+    ensures { λ r. ⌜ Begun (stateOf (now (state .entry))) (now (piece .entry)) most r (now (state .entry)) (now (records .entry)) (now (labels .entry)) (now (out .entry)) (now (state .exit)) (now (records .exit)) (now (labels .exit)) (now (out .exit)) ⌝ }
+{
+    let have = state[4] as usize;
+    let n = piece.len();
+    let taken = v.due - have;
+    if n < taken {
+        *out = [0, n as u64];
+        put_having(state, have + n);
+        return ended(0);
+    }
+    let k = v.klv;
+    let passed = saturating_sub(k.at, state[5] as usize);
+    put(records, labels, 0, k, passed, label_in(state));
+    if (1 < most) & (taken < n) {
+        return Start {
+            at: v.next,
+            since: v.next,
+            taken,
+            count: 1,
+            status: SEARCHES,
+        };
+    }
+    *out = [1, taken as u64];
+    put_done(state, v.next);
+    ended(0)
+}
+
+// The first part of a call. Most end, or come to a search, without a state being made of the numbers.
+fn begin(
+    state: &mut [u64; 10],
+    piece: &[u8],
+    records: &mut [u64],
+    labels: &mut [u8],
+    most: usize,
+    out: &mut [u64; 2],
+) -> Start
+    requires { ⌜ 0 < most ⌝ }
+    requires { ⌜ placesEach * most ≤ length (now records) ⌝ }
+    requires { ⌜ 16 * most ≤ length (now labels) ⌝ }
+    ensures { λ r. ⌜ Begun (stateOf (now (state .entry))) (now (piece .entry)) most r (now (state .entry)) (now (records .entry)) (now (labels .entry)) (now (out .entry)) (now (state .exit)) (now (records .exit)) (now (labels .exit)) (now (out .exit)) ⌝ }
+{
+    let b = starting(state, piece);
+    if b.taken < piece.len() {
+        let since = state[5] as usize;
+        return Start {
+            at: b.at,
+            since,
+            taken: b.taken,
+            count: 0,
+            status: SEARCHES,
+        };
+    }
+    let v = waited(state, piece.len());
+    if v.due == 0 {
+        return resume(state, piece, records, labels, most, out);
+    }
+    within(v, state, piece, records, labels, most, out)
+}
+
+// Puts a record of bytes that come at a place of the stream behind n others, and its label.
+fn put_next(
+    records: &mut [u64],
+    labels: &mut [u8],
+    n: usize,
+    tail: &[u8],
+    k: Klv,
+    here: usize,
+    since: usize,
+)
+    requires { ⌜ placesEach * n + placesEach ≤ length (now records) ⌝ }
+    requires { ⌜ 16 * n + 16 ≤ length (now labels) ⌝ }
+    requires { ⌜ k .at + 16 ≤ length (now tail) ⌝ }
+    requires { ⌜ here + k .at < 2 ^ 64 ⌝ }
+    requires { ⌜ here + k .value < 2 ^ 64 ⌝ }
+    ensures { λ r. ⌜ now (records .exit) ≡ recordPut (onward here k) (here + k .at - since) (placesEach * n) (now (records .entry)) ⌝ }
+    ensures { λ r. ⌜ now (labels .exit) ≡ sets (now (labels .entry)) (16 * n) (labelAt (now (tail .entry)) (k .at)) ⌝ }
+{
+    let r = moved(k, here);
+    let passed = saturating_sub(r.at, since);
+    put(records, labels, n, r, passed, label_at(tail, k.at));
+}
+
+// Puts the records of a piece from i on, at a place of the stream where a search starts, behind n others and up to most. The rest of
+// the piece is a buffer which the walk's own step reads: the last record's place has its label.
+fn walk(
+    here: usize,
+    from: usize,
     piece: &[u8],
     i: usize,
     records: &mut [u64],
     labels: &mut [u8],
     n: usize,
     most: usize,
-) -> Many
-    requires { ⌜ Fits (now piece) (st .limit) (took st i) ⌝ }
-    requires { ⌜ st ≡ goneOn st (st .at) (st .label) ⌝ }
-    requires { ⌜ n ≤ most ⌝ }
+    state: &mut [u64; 10],
+    out: &mut [u64; 2],
+)
+    requires { ⌜ Fits (now piece) (stateOf (now state) .limit) (took (seekingOf (stateOf (now state)) here from) i) ⌝ }
+    requires { ⌜ i < length (now piece) ⌝ }
+    requires { ⌜ n < most ⌝ }
     requires { ⌜ placesEach * most ≤ length (now records) ⌝ }
     requires { ⌜ 16 * most ≤ length (now labels) ⌝ }
-    ensures { λ r. ⌜ Fits (now (piece .entry)) (st .limit) (took (r .state) (r .taken)) ⌝ }
-    ensures { λ r. ⌜ Ran (now (piece .entry)) most (took st i) n (now (records .entry)) (now (labels .entry)) (took (r .state) (r .taken)) (r .count) (now (records .exit)) (now (labels .exit)) ⌝ }
+    ensures { λ r. ⌜ Ended (now (piece .entry)) most (took (seekingOf (stateOf (now (state .entry))) here from) i) n (now (records .entry)) (now (labels .entry)) (now (records .exit)) (now (labels .exit)) (now (state .exit)) (now (out .exit)) ⌝ }
 {
-    let here = st.at;
     let tail = &piece[i..];
-    let mut k = Cursor { at: 0, since: 0 };
-    let mut label = st.label;
+    let limit = limit_of(state);
+    let mut p = 0;
+    let mut since = from;
+    let mut last = 0;
     let mut m = n;
-    while m < most {
-        if tail.len() <= k.at {
-            return behind(st, i, k.at, label, m);
-        }
-        let t = k.arrive(tail, st.limit - here);
+    while (m < most) & (p < tail.len()) {
+        let t = Cursor { at: p, since: p }.arrive(tail, limit - here);
         match t {
-            Step::Rests(c) => return resting(st, i, k.at, c.at, label, m),
-            Step::Refused => return behind(st, i, k.at, label, m),
-            Step::Record(r, passed, c) => {
-                label = label_at(tail, r.at);
-                put(records, labels, m, moved(r, here), passed, label);
+            Step::Rests(c) => {
+                *out = [m as u64, piece.len() as u64];
+                put_rest(state, here, since, tail, c.at);
+                return;
+            }
+            Step::Refused => return,
+            Step::Record(r, _, c) => {
+                put_next(records, labels, m, tail, r, here, since);
+                since = here + c.at;
+                last = r.at;
+                p = c.at;
                 m += 1;
-                k = c;
             }
         }
     }
-    behind(st, i, k.at, label, m)
+    let next = here + p;
+    *out = [m as u64, (i + p) as u64];
+    put_behind(state, next, tail, last);
 }
 
-// Puts the records of a piece, as many as there is room for: one by one until the state is behind a record, and from there on by
-// the walk's own step.
-fn fill(st: State, piece: &[u8], records: &mut [u64], labels: &mut [u8], most: usize) -> Many
-    requires { ⌜ Fits (now piece) (st .limit) (took st 0) ⌝ }
-    requires { ⌜ placesEach * most ≤ length (now records) ⌝ }
-    requires { ⌜ 16 * most ≤ length (now labels) ⌝ }
-    ensures { λ r. ⌜ took (r .state) (r .taken) ≡ endOf most st (now (piece .entry)) ⌝ }
-    ensures { λ r. ⌜ r .count ≡ length (recordsOf most st (now (piece .entry))) ⌝ }
-    ensures { λ r. ⌜ now (records .exit) ≡ recordsPut (recordsOf most st (now (piece .entry))) 0 (now (records .entry)) ⌝ }
-    ensures { λ r. ⌜ now (labels .exit) ≡ labelsPut (recordsOf most st (now (piece .entry))) 0 (now (labels .entry)) ⌝ }
+// A call with no room for a record: the piece is refused, or nothing of it is taken.
+fn roomless(state: &mut [u64; 10], piece: &[u8], out: &mut [u64; 2]) -> u32
+    ensures { λ r. ⌜ Roomless (stateOf (now (state .entry))) (now (piece .entry)) (now (state .entry)) (now (out .entry)) r (now (state .exit)) (now (out .exit)) ⌝ }
 {
-    let mut s = st;
-    let mut i = 0;
-    let mut n = 0;
-    while n < most {
-        let f = feed(s, &piece[i..]);
-        s = f.state;
-        i += f.taken;
-        let a = f.answer;
-        let Answer::Record(k, passed) = a else {
-            return Many {
-                state: s,
-                taken: i,
-                count: n,
-            };
-        };
-        let label = s.label;
-        put(records, labels, n, k, passed, label);
-        let w = walk_on(s, piece, i, records, labels, n + 1, most);
-        s = w.state;
-        i = w.taken;
-        n = w.count;
+    let st = state_of(state);
+    let no = refusal(st, piece.len());
+    if no != 0 {
+        return no;
     }
-    Many {
-        state: s,
-        taken: i,
-        count: n,
-    }
+    *out = [0, 0];
+    put_state(st, state);
+    0
 }
 
 // As many records of a piece as there is room for.
@@ -234,14 +360,25 @@ pub extern "C" fn brine_feed_records(
     ensures { λ r. ⌜ now (labels .exit) ≡ labelsPut (recordsOf (room (now (records .entry)) (now (labels .entry))) (stateOf (now (state .entry))) (now (piece .entry))) 0 (now (labels .entry)) ⌝ }
     ensures { λ r. ⌜ now (out .exit) ≡ manyPlaces (now (out .entry)) (recordsOf (room (now (records .entry)) (now (labels .entry))) (stateOf (now (state .entry))) (now (piece .entry))) (endOf (room (now (records .entry)) (now (labels .entry))) (stateOf (now (state .entry))) (now (piece .entry))) (number (feedOf (stateOf (now (state .entry))) (now (piece .entry)))) ⌝ }
 {
-    let st = state_of(state);
-    let no = refusal(st, piece.len());
-    if no != 0 {
-        return no;
-    }
     let most = lesser(records.len() / PLACES_EACH, labels.len() / LABEL);
-    let m = fill(st, piece, records, labels, most);
-    *out = [m.count as u64, m.taken as u64];
-    put_state(m.state, state);
+    if most == 0 {
+        return roomless(state, piece, out);
+    }
+    let b = begin(state, piece, records, labels, most, out);
+    if b.status != SEARCHES {
+        return b.status;
+    }
+    walk(
+        b.at,
+        b.since,
+        piece,
+        b.taken,
+        records,
+        labels,
+        b.count,
+        most,
+        state,
+        out,
+    );
     0
 }

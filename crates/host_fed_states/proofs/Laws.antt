@@ -1,10 +1,15 @@
 -- Bytes of a number, put one by one. Assumes nothing.
-use Prim.Native.Nat.{ℕ, zero, suc, _+_, _/_, _%_, _≤_}
+use Prim.Native.Nat.{ℕ, zero, suc, _+_, _*_, _^_, _/_, _%_, _≤_, _<_}
 use mathlib.Core.Path.{_≡_, refl, sym, ap, _∙_}
-use mathlib.Core.List.{List, [], _∷_, _++_, append-nil}
+use mathlib.Core.List.{List, [], _∷_, _++_, append-nil, append-assoc}
 use native.Mathlib.Omega.{arith}
-use lib.ListN.{length, set, take, drop, length-append, drop-of-length-le}
+use lib.ListN.{length, getD, set, take, drop, replicate, getD-replicate, length-append, drop-of-length-le}
 use lib.Seq.{sets, sets-eq, set-comm, length-sets, take-at}
+use Rattle.parts.specs.Number.{numberAt}
+use Rattle.parts.proofs.Parts.{part-byte}
+use Rattle.labels.specs.Label.{labelAt}
+use Rattle.fed_states.specs.State.{noLabel, noBer, wholeLabel}
+use Rattle.fed_states.proofs.Laws.{label-whole, label-cut}
 use Rattle.host_fed_states.specs.Places.{bytesOf}
 
 pub bytes-length : (n v : ℕ) → length (bytesOf n v) ≡ n
@@ -44,6 +49,74 @@ ber-filled l x y h =
     let b = bytes-length 1 y in
     rw a at (two-fill (bytesOf 8 x) (bytesOf 1 y) l (omega arith))
 
+pub ber-length : (x y : ℕ) → length (bytesOf 8 x ++ bytesOf 1 y) ≡ 9
+ber-length x y = length-append (bytesOf 8 x) (bytesOf 1 y) ∙ rw (bytes-length 8 x, bytes-length 1 y) refl
+
 pub one-byte : (l : List ℕ) (i y : ℕ) → set l i (y % 256) ≡ sets l i (bytesOf 1 y)
 unfolding bytesOf
 one-byte l i y = refl
+
+-- Numbers that bytes of a label hold, or none behind it
+
+pub ber-none : numberAt noBer 0 8 ≡ 0
+unfolding numberAt
+ber-none = refl
+
+pub label-first : numberAt noLabel 0 8 ≡ 0x060e2b3400000000
+unfolding numberAt
+label-first = refl
+
+pub label-last : numberAt noLabel 8 8 ≡ 0
+unfolding numberAt
+label-last = refl
+
+pub number-moved : (s t : List ℕ) (at from n : ℕ) → ((j : ℕ) → j < n → getD t (from + j) 0 ≡ getD s (at + j) 0) → numberAt t from n ≡ numberAt s at n
+unfolding numberAt
+number-moved s t at from zero h = refl
+number-moved s t at from (suc n) h = rw (number-moved s t at from n (λ j k. h j (omega arith)), h n (omega arith))
+
+number-none : (s : List ℕ) (from n : ℕ) → ((j : ℕ) → j < n → getD s (from + j) 0 ≡ 0) → numberAt s from n ≡ 0
+unfolding numberAt
+number-none s from zero h = refl
+number-none s from (suc n) h = rw (number-none s from n (λ j k. h j (omega arith)), h n (omega arith)) (omega arith)
+
+module _ (b : List ℕ) (at n : ℕ) (h : n ≤ 8) where
+  pub half-whole : at + 16 ≤ length b → numberAt b (at + n) 8 ≡ numberAt (wholeLabel b at) n 8
+  half-whole m =
+      rw (label-whole b at m)
+      (sym (number-moved b (labelAt b at) (at + n) n 8 (λ j k. let e : at + (n + j) ≡ at + n + j = omega arith in part-byte b at 16 (n + j) (omega arith) ∙ rw e)))
+
+  pub half-cut : length b < at + 16 → 0 ≡ numberAt (wholeLabel b at) n 8
+  half-cut m = rw (label-cut b at m) (sym (number-none (replicate 16 0) n 8 (λ j k. getD-replicate {A = ℕ} 16 (n + j) 0 0 (omega arith))))
+
+-- The number that a number's bytes hold, where others stand around them
+
+byte-behind : (a m : List ℕ) (x : ℕ) (b : List ℕ) → getD (a ++ (m ++ (x ∷ b))) (length a + length m) 0 ≡ x
+byte-behind [] [] x b = refl
+byte-behind [] (y ∷ m) x b = let z : 0 + suc (length m) ≡ suc (0 + length m) = omega arith in rw z (byte-behind [] m x b)
+byte-behind (y ∷ a) m x b = let z : suc (length a) + length m ≡ suc (length a + length m) = omega arith in rw z (byte-behind a m x b)
+
+number-bytes : (n v : ℕ) (a b : List ℕ) → v < 256 ^ n → numberAt (a ++ (bytesOf n v ++ b)) (length a) n ≡ v
+unfolding numberAt bytesOf
+number-bytes zero v a b h = omega arith
+number-bytes (suc n) v a b h =
+    let d : v / 256 * 256 + v % 256 ≡ v = omega arith in
+    let p = append-assoc (bytesOf n (v / 256)) (v % 256 ∷ []) b in
+    let l = bytes-length n (v / 256) in
+    let q : getD (a ++ (bytesOf n (v / 256) ++ (v % 256 ∷ b))) (length a + n) 0 ≡ v % 256 = rw l at (byte-behind a (bytesOf n (v / 256)) (v % 256) b) in
+    ap (λ (x : List ℕ). numberAt (a ++ x) (length a) n * 256 + getD (a ++ x) (length a + n) 0) p
+    ∙ rw (number-bytes n (v / 256) a (v % 256 ∷ b) (omega arith), q) d
+
+module _ (x y : ℕ) where
+  pub first-number : (n : ℕ) → x < 2 ^ 64 → numberAt (bytesOf 8 x ++ bytesOf n y) 0 8 ≡ x
+  first-number n h = number-bytes 8 x [] (bytesOf n y) (omega arith)
+
+  pub last-number : y < 2 ^ 64 → numberAt (bytesOf 8 x ++ bytesOf 8 y) 8 8 ≡ y
+  last-number h = rw (append-nil, bytes-length 8 x) at (number-bytes 8 y (bytesOf 8 x) [] (omega arith))
+
+  one-number : bytesOf 1 y ≡ y % 256 ∷ []
+  unfolding bytesOf
+  one-number = refl
+
+  pub ninth-byte : getD (bytesOf 8 x ++ bytesOf 1 y) 8 0 ≡ y % 256
+  ninth-byte = rw (one-number) (rw (bytes-length 8 x) at (byte-behind [] (bytesOf 8 x) (y % 256) []))

@@ -27,7 +27,7 @@ enum-told : tie.Need-enum-told
 enum-told c = search needs
 
 returns : tie.Need-returns
-returns c = sym (turn-cut _ (sym (c .before .before .length-of .ensures) ∙ c .enum-told .given .1))
+returns c = c .silent .ensures ∙ sym (turn-cut _ (sym (c .before .before .before .length-of .ensures) ∙ c .before .enum-told .given .1))
 
 enum-known-l : tie.Need-enum-known-l
 enum-known-l c = search needs
@@ -39,7 +39,7 @@ sought-requires : tie.Need-sought-requires
 sought-requires c κs = search needs
 
 returns-2 : tie.Need-returns-2
-returns-2 c = rw (c .sought .ensures) (sym (turn-none _ (is-none (c .before))))
+returns-2 c = c .silent2 .ensures ∙ rw (c .before .sought .ensures) (sym (turn-none _ (is-none (c .before .before))))
 
 add-v : tie.Need-add-v
 add-v c = search needs
@@ -69,13 +69,13 @@ sub-if2 : tie.Need-sub-if2
 sub-if2 c = omega (arith, is-come (c .before .before .before .before))
 
 returns-4 : tie.Need-returns-4
-returns-4 c = sym (turn-wait _ _ (is-length (c .before .before .before .before .before)) (omega arith) (omega arith))
+returns-4 c = c .silent3 .ensures ∙ sym (turn-wait _ _ (is-length (c .before .before .before .before .before .before)) (omega arith) (omega arith))
 
 sought-requires-2 : tie.Need-sought-requires-2
 sought-requires-2 c κs = search needs
 
 returns-5 : tie.Need-returns-5
-returns-5 c = rw (c .sought2 .ensures) (sym (turn-late _ _ (is-length (c .before .before .before .before .before .before)) (omega arith) (omega arith)))
+returns-5 c = c .silent4 .ensures ∙ rw (c .before .sought2 .ensures) (sym (turn-late _ _ (is-length (c .before .before .before .before .before .before .before)) (omega arith) (omega arith)))
 
 pub turn-spec : {M : Type 1} → statement M
 turn-spec =
@@ -83,10 +83,12 @@ turn-spec =
     (tie.spec
     length-of-requires
     enum-told
+    (λ c κs. search needs)
     returns
     enum-known-l
     add-next
     sought-requires
+    (λ c κs. search needs)
     returns-2
     add-v
     add-v-2
@@ -97,6 +99,8 @@ turn-spec =
     saturating-sub-requires
     returns-3
     sub-if2
+    (λ c κs. search needs)
     returns-4
     sought-requires-2
+    (λ c κs. search needs)
     returns-5)

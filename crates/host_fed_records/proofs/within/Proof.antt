@@ -1,0 +1,59 @@
+-- `host_fed_records::within` meets its contract: nothing comes of the piece, or the value's record, and a search may start behind it.
+use mathlib.Core.Path.{refl, sym}
+use mathlib.Core.List.{[]}
+use mathlib.Core.Bool.{false≢true}
+use native.Mathlib.Omega.{arith}
+use borrow.Author.Tests.{ltb-true, lt-ltb}
+use lib.Dec.{ltb}
+use Rattle.fed_states.proofs.Laws.{and-left, and-right}
+use Rattle.host_fed_states.proofs.Values.{tells-nothing, tells-record}
+use Rattle.host_fed_records.proofs.Beginning.{begun-starts, begun-nothing, begun-over, starts-behind}
+use borrow.Author.Needs.{needs}
+use Rattle.host_fed_records.proofs.within.Statement.{statement}
+use Rattle.host_fed_records.proofs.within.Tie as tie
+
+put-requires : tie.Need-put-requires
+put-requires c κs = let p = c .before .before .before .before .before .before .before .before .before .before .before .before .before .pre .1 in (omega (arith, p .0, p .1 .0), omega (arith, p .0, p .1 .1))
+
+returns : tie.Need-returns
+returns c =
+    let t = c .before .before .before .before .before .before .before .before .before .before .pre .0 in
+    rw (c .before .put-having .ensures) (begun-nothing _ _ _ _ _ _ _ _ _ _ (c .before .before .before .before .before .before .before .before .before .before .pre .1 .0) (tells-nothing _ _ _ t (omega (arith, c .before .before .before .before .if1 .taken, t .less, t .due))) (c .ended .ensures))
+
+returns-2 : tie.Need-returns-2
+returns-2 c =
+    let e = c .before .before .before .before .before .put .ensures in
+    let t = c .before .before .before .before .before .before .before .before .before .before .before .before .before .before .before .before .before .before .before .pre .0 in
+    rw (e .0, e .1, c .before .before .before .before .before .before .label-in .ensures, c .before .before .before .before .before .before .before .before .before .before .saturating-sub .ensures)
+    (begun-starts _ _ _ _ _ _ _ _ _ refl refl
+    (starts-behind _ _ _ [] _ _ [] _ _ _ (c .before .before .before .before .before .before .before .before .before .before .before .before .before .before .before .before .before .before .before .pre .1 .0) (tells-record _ _ _ t (omega (arith, c .before .before .before .before .before .before .before .before .before .before .before .before .before .if1 .left, t .less, t .due))) (ltb-true _ _ (and-right (ltb 1 (c .before .before .before .before .before .before .before .before .before .before .before .before .before .before .before .before .before .before .before .args .most)) _ (c .if2 .taken))) (ltb-true _ _ (and-left _ _ (c .if2 .taken)))))
+
+returns-3 : tie.Need-returns-3
+returns-3 c =
+    let e = c .before .before .before .before .before .before .before .before .before .put .ensures in
+    let t = c .before .before .before .before .before .before .before .before .before .before .before .before .before .before .before .before .before .before .before .before .before .before .before .pre .0 in
+    rw (e .0, e .1, c .before .put-done .ensures, c .before .before .before .before .before .before .before .before .before .before .label-in .ensures, c .before .before .before .before .before .before .before .before .before .before .before .before .before .before .saturating-sub .ensures)
+    (begun-over _ _ _ _ _ _ _ _ _ _ (c .before .before .before .before .before .before .before .before .before .before .before .before .before .before .before .before .before .before .before .before .before .before .before .pre .1 .0) (tells-record _ _ _ t (omega (arith, c .before .before .before .before .before .before .before .before .before .before .before .before .before .before .before .before .before .if1 .left, t .less, t .due))) _ (λ x y. false≢true (sym (rw (lt-ltb _ _ x, lt-ltb _ _ y) at (c .before .before .before .before .if2 .left)))) (c .ended2 .ensures))
+
+pub within-spec : {M : Type 1} → statement M
+within-spec =
+    tie.close
+    (tie.spec
+    (λ c. search needs)
+    (λ c. let t = c .before .before .before .before .before .pre .0 in omega (arith, t .less, t .due))
+    (λ c. let t = c .before .before .before .before .before .before .before .before .pre .0 in omega (arith, c .before .before .if1 .taken, t .less, t .due))
+    (λ c κs. search needs)
+    (λ c κs. search needs)
+    returns
+    (λ c. search needs)
+    (λ c κs. search needs)
+    (λ c κs. search needs)
+    put-requires
+    (λ c. search needs)
+    (λ c. search needs)
+    returns-2
+    (λ c κs. search needs)
+    (λ c κs. search needs)
+    (λ c. search needs)
+    (λ c. search needs)
+    returns-3)

@@ -1,0 +1,91 @@
+-- `host_fed_states::put_rest` meets its contract: a law for each way.
+use Prim.Native.Nat.{_+_, _-_, _≤_, _<_, _^_}
+use mathlib.Core.Path.{_≡_, refl, sym, ap, _∙_}
+use mathlib.Core.Bool.{true, _&&_}
+use native.Mathlib.Omega.{arith}
+use borrow.Author.Tests.{not-true, not-false, leb-true}
+use lib.Dec.{leb}
+use lib.ListN.{length, getD}
+use denote.Ref.{now}
+use Rattle.labels.specs.Label.{keyAt}
+use Rattle.fed_states.specs.declared.State.{State}
+use Rattle.fed_states.proofs.Laws.{and-left, and-right}
+use Rattle.host_fed_states.specs.Places.{stateOf, statePlaces}
+use Rattle.host_fed_states.proofs.Kept.{rest-barred, come, inside, wait-most, rest-end, rest-short, rest-key}
+use borrow.Author.Needs.{needs}
+use Rattle.host_fed_states.proofs.put_rest.Statement.{statement}
+use Rattle.host_fed_states.proofs.put_rest.Tie as tie
+
+-- the bytes may come, and the place is one of them
+abbrev There : tie.Start → Type 0
+There c = (leb (c .args .at + length (now (c .args .b))) (stateOf (now (c .args .s)) .limit) && leb (c .args .w) (length (now (c .args .b)))) ≡ true
+
+there : (c : tie.Else1) → There (c .before .before .before .before .before)
+there c = sym (rw (c .before .before .limit-of .ensures) at (c .before .among .ensures)) ∙ not-false _ (c .if1 .left)
+
+inside-of : (c : tie.Else1) → c .before .before .before .before .before .args .w ≤ length (now (c .before .before .before .before .before .args .b))
+inside-of c = let a = c .before .before .before .before .before .args in inside (stateOf (now (a .s))) (a .at) (a .since) (now (a .b)) (a .w) (there c)
+
+limit-fits : (c : tie.After-limit-of) → c .limit-of .result < 2 ^ 64
+limit-fits c = search needs
+
+place-fits : (c : tie.Else1) → c .before .before .before .before .before .args .at + c .before .before .before .before .before .args .w < 2 ^ 64
+place-fits c = let a = c .before .before .before .before .before .args in omega (arith, come (stateOf (now (a .s))) (a .at) (a .since) (now (a .b)) (a .w) (there c), inside-of c, limit-fits (c .before .before), c .before .before .limit-of .ensures)
+
+-- where fewer than four bytes wait
+most : (c : tie.After-wait-from) → c .wait-from .result ≤ length (now (c .before .before .before .before .before .before .before .before .args .b))
+most c = let a = c .before .before .before .before .before .before .before .before .args in wait-most (stateOf (now (a .s))) (a .at) (a .since) (now (a .b)) (a .w) (there (c .before .before .before)) _ (c .wait-from .ensures)
+
+wait-fits : (c : tie.After-wait-from) → c .before .before .before .before .before .before .before .before .args .at + c .wait-from .result < 2 ^ 64
+wait-fits c =
+    let a = c .before .before .before .before .before .before .before .before .args in
+    omega (arith, most c, come (stateOf (now (a .s))) (a .at) (a .since) (now (a .b)) (a .w) (there (c .before .before .before)), limit-fits (c .before .before .before .before .before), c .before .before .before .before .before .limit-of .ensures)
+
+-- a key, and enough bytes behind it
+many : (c : tie.Then4) → c .before .before .before .before .before .before .before .before .before .args .w + 25 ≤ length (now (c .before .before .before .before .before .before .before .before .before .args .b))
+many c = let a = c .before .before .before .before .before .before .before .before .before .args in omega (arith, leb-true 25 (length (now (a .b)) - a .w) (and-left _ (c .before .key-at .result) (c .if4 .taken)))
+
+key : (c : tie.Then4) → keyAt (now (c .before .before .before .before .before .before .before .before .before .args .b)) (c .before .before .before .before .before .before .before .before .before .args .w) ≡ true
+key c = sym (c .before .key-at .ensures) ∙ and-right (leb 25 (length (now (c .before .before .before .before .before .before .before .before .before .args .b)) - c .before .before .before .before .before .before .before .before .before .args .w)) _ (c .if4 .taken)
+
+returns : tie.Need-returns
+returns c =
+    c .put-sought .ensures
+    ∙ ap (λ (t : State). statePlaces t) (rest-barred (stateOf (now (c .before .before .before .before .before .before .before .args .s))) _ _ _ _ (sym (rw (c .before .before .before .before .limit-of .ensures) at (c .before .before .before .among .ensures)) ∙ not-true _ (c .before .before .if1 .taken)))
+
+returns-2 : tie.Need-returns-2
+returns-2 c = c .put-sought2 .ensures ∙ ap (λ (t : State). statePlaces t) (rest-end (stateOf (now (c .before .before .before .before .before .before .before .before .args .s))) _ _ _ _ (there (c .before .before .before)) (c .before .before .if2 .taken))
+
+returns-3 : tie.Need-returns-3
+returns-3 c = c .put-sought3 .ensures ∙ ap (λ (t : State). statePlaces t) (rest-short (stateOf (now (c .before .before .before .before .before .before .before .before .before .before .args .s))) _ _ _ _ (there (c .before .before .before .before .before)) _ (c .before .before .wait-from .ensures) (c .before .before .before .if3 .taken))
+
+returns-4 : tie.Need-returns-4
+returns-4 c = c .put-key .ensures ∙ rest-key (stateOf (now (c .before .before .before .before .before .before .before .before .before .before .before .args .s))) _ _ _ _ (there (c .before .before .before .before .before .before)) (many (c .before .before)) (key (c .before .before))
+
+returns-5 : tie.Need-returns-5
+returns-5 c = rw (c .put-state .ensures, c .before .before .rest .ensures, c .before .before .before .seeking .ensures) refl
+
+pub put-rest-spec : {M : Type 1} → statement M
+put-rest-spec =
+    tie.close
+    (tie.spec
+    (λ c κs. search needs)
+    (λ c κs. search needs)
+    (λ c κs. search needs)
+    returns
+    inside-of
+    (λ c. omega (arith, place-fits (c .before .before)))
+    (λ c κs. search needs)
+    returns-2
+    (λ c κs. search needs)
+    (λ c. omega (arith, most c))
+    (λ c. omega (arith, wait-fits (c .before)))
+    (λ c κs. search needs)
+    returns-3
+    (λ c κs. search needs)
+    (λ c κs. (many (c .before), place-fits (c .before .before .before .before .before)))
+    returns-4
+    (λ c κs. search needs)
+    (λ c κs. search needs)
+    (λ c κs. search needs)
+    returns-5)
