@@ -2,7 +2,7 @@
 // item without a usable value erases tilt, roll, both distances, T-stop, focal length, exposure time, exposure index, white
 // balance and ND; it doesn't erase tint, sensor rate, effective focal length or encoders.
 ghost use mathlib.Core.Path.{_≡_};
-ghost use Rattle.arri_alexa35_values.specs.Said.{said, doubleOr, wholeOr, distanceOr};
+ghost use Rattle.arri_alexa35_values.specs.Said.{said, distanceOr};
 ghost use Rattle.arri_alexa35_values.specs.Values.{orientationOn, lensOn, encodersOn, captureOn, valuesOn, none, frameOf};
 use arri_alexa35_items::density_of;
 use arri_alexa35_items::distance_in;
@@ -58,27 +58,7 @@ pub struct Values {
     pub capture: Capture,
 }
 
-// The first of two f64 that is there.
-fn double_or(x: Double, other: Double) -> Double
-    ensures { λ r. ⌜ r ≡ doubleOr x other ⌝ }
-{
-    match x {
-        Double::Is(_) => x,
-        Double::Nothing => other,
-    }
-}
-
-// The same of u64.
-fn whole_or(x: Whole64, other: Whole64) -> Whole64
-    ensures { λ r. ⌜ r ≡ wholeOr x other ⌝ }
-{
-    match x {
-        Whole64::Is(_) => x,
-        Whole64::Nothing => other,
-    }
-}
-
-// The same of distances.
+// The first of two distances that is there.
 fn distance_or(x: Distance, other: Distance) -> Distance
     ensures { λ r. ⌜ r ≡ distanceOr x other ⌝ }
 {
@@ -117,7 +97,12 @@ fn lens_on(k: Lens, n: u64, v: &[u8]) -> Lens
         0x0d02 => imperial = distance_in(true, v),
         0x0d03 => t_stop = t_stop_in(v),
         0x0d05 => focal_length = focal_length_in(v),
-        0x0d06 => effective = double_or(effective_in(v), effective),
+        0x0d06 => {
+            let found = effective_in(v);
+            if let Double::Is(_) = found {
+                effective = found;
+            }
+        }
         _ => {}
     }
     Lens {
@@ -133,6 +118,16 @@ fn lens_on(k: Lens, n: u64, v: &[u8]) -> Lens
 fn encoders_on(k: Encoders, n: u64, v: &[u8]) -> Encoders
     ensures { λ r. ⌜ r ≡ encodersOn k (said n (now (v .entry))) ⌝ }
 {
+    if n < 0x0d07 {
+        return k;
+    }
+    if 0x0d0c < n {
+        return k;
+    }
+    let found = whole_in(v);
+    let Whole64::Is(_) = found else {
+        return k;
+    };
     let mut focus_lds = k.focus_lds;
     let mut focus_motor = k.focus_motor;
     let mut iris_lds = k.iris_lds;
@@ -140,12 +135,12 @@ fn encoders_on(k: Encoders, n: u64, v: &[u8]) -> Encoders
     let mut zoom_lds = k.zoom_lds;
     let mut zoom_motor = k.zoom_motor;
     match n {
-        0x0d07 => focus_lds = whole_or(whole_in(v), focus_lds),
-        0x0d08 => focus_motor = whole_or(whole_in(v), focus_motor),
-        0x0d09 => iris_lds = whole_or(whole_in(v), iris_lds),
-        0x0d0a => iris_motor = whole_or(whole_in(v), iris_motor),
-        0x0d0b => zoom_lds = whole_or(whole_in(v), zoom_lds),
-        0x0d0c => zoom_motor = whole_or(whole_in(v), zoom_motor),
+        0x0d07 => focus_lds = found,
+        0x0d08 => focus_motor = found,
+        0x0d09 => iris_lds = found,
+        0x0d0a => iris_motor = found,
+        0x0d0b => zoom_lds = found,
+        0x0d0c => zoom_motor = found,
         _ => {}
     }
     Encoders {
@@ -172,8 +167,18 @@ fn capture_on(k: Capture, n: u64, v: &[u8]) -> Capture
         0x0e01 => exposure_time = exposure_in(v),
         0x0e03 => exposure_index = low_in(v),
         0x0e05 => white_balance = low_in(v),
-        0x0e06 => tint = double_or(tint_of(float_in(v)), tint),
-        0x0e07 => sensor_rate = double_or(rate_in(v), sensor_rate),
+        0x0e06 => {
+            let found = tint_of(float_in(v));
+            if let Double::Is(_) = found {
+                tint = found;
+            }
+        }
+        0x0e07 => {
+            let found = rate_in(v);
+            if let Double::Is(_) = found {
+                sensor_rate = found;
+            }
+        }
         0x0e08 => nd_density = density_of(float_in(v)),
         _ => {}
     }

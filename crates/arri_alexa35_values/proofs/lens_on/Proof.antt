@@ -1,6 +1,6 @@
 -- `arri_alexa35_values::lens_on` meets its contract: an arm for each number, and one for the rest.
 use borrow.Author.Tests.{ne-eqb}
-use Rattle.arri_alexa35_values.specs.Said.{erases, keeps}
+use Rattle.arri_alexa35_values.specs.Said.{erases, keeps, doubleOr}
 use Rattle.arri_alexa35_values.specs.Values.{lensOn}
 use borrow.Author.Needs.{needs}
 use Rattle.arri_alexa35_values.proofs.lens_on.Statement.{statement}
@@ -21,8 +21,11 @@ focal-length-in-requires c κs = search needs
 effective-in-requires : tie.Need-effective-in-requires
 effective-in-requires c κs = search needs
 
-double-or-requires : tie.Need-double-or-requires
-double-or-requires c κs = search needs
+enum-told : tie.Need-enum-told
+enum-told c = search needs
+
+enum-told-2 : tie.Need-enum-told-2
+enum-told-2 c = search needs
 
 returns : tie.Need-returns
 unfolding lensOn erases keeps
@@ -41,12 +44,16 @@ unfolding lensOn erases keeps
 returns-4 c = rw (c .before .match .keys4, c .focal-length-in .ensures)
 
 returns-5 : tie.Need-returns-5
-unfolding lensOn erases keeps
-returns-5 c = rw (c .before .before .match .keys5, c .double-or .ensures, c .before .effective-in .ensures)
+unfolding lensOn erases keeps doubleOr
+returns-5 c = rw (c .before .before .before .match .keys5, ← c .before .before .effective-in .ensures, c .enum-told .given .1)
 
 returns-6 : tie.Need-returns-6
+unfolding lensOn erases keeps doubleOr
+returns-6 c = rw (c .before .before .before .match .keys5, ← c .before .before .effective-in .ensures, c .enum-told2 .given .1)
+
+returns-7 : tie.Need-returns-7
 unfolding lensOn erases keeps
-returns-6 c = rw (ne-eqb _ _ (c .match .rest .0 .0 .0 .0 .1), ne-eqb _ _ (c .match .rest .0 .0 .0 .1), ne-eqb _ _ (c .match .rest .0 .0 .1), ne-eqb _ _ (c .match .rest .0 .1), ne-eqb _ _ (c .match .rest .1))
+returns-7 c = rw (ne-eqb _ _ (c .match .rest .0 .0 .0 .0 .1), ne-eqb _ _ (c .match .rest .0 .0 .0 .1), ne-eqb _ _ (c .match .rest .0 .0 .1), ne-eqb _ _ (c .match .rest .0 .1), ne-eqb _ _ (c .match .rest .1))
 
 pub lens-on-spec : {M : Type 1} → statement M
 lens-on-spec =
@@ -57,10 +64,12 @@ lens-on-spec =
     t-stop-in-requires
     focal-length-in-requires
     effective-in-requires
-    double-or-requires
+    enum-told
+    enum-told-2
     returns
     returns-2
     returns-3
     returns-4
     returns-5
-    returns-6)
+    returns-6
+    returns-7)
