@@ -94,5 +94,9 @@ module _ (s o₀ : List ℕ) where
           rest = append-assoc (g .done) t (payloadFrom s (i .left) next) ∙ rw (x, sym (payload-more s p left i next (sym e))) (g .rest);
         }
 
+    -- of a line without payload nothing is put
+    pub going-none : (i : Counted) (next : ℕ) → found i next ≡ lineStep s left p → i .line .len ≡ 0 → Going s o₀ o r (i .left) next
+    going-none i next e z = going-next i next e [] o r (rw z) (put-none o r)
+
     pub going-end : (q : ℕ) → nothing q ≡ lineStep s left p → Put (payloadOf s) o₀ 0 o r
     going-end q e = rw (rw (payload-end s p left q (sym e), append-nil (g .done)) at (g .rest)) at (g .put)

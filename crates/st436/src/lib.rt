@@ -166,7 +166,9 @@ fn put_payload(s: &[u8], out: &mut [u8]) -> usize
         let Step::Line(line, next) = t else {
             return r;
         };
-        r = text::put_all(out, r, line.bytes(s));
+        if 0 < line.len {
+            r = text::put_all(out, r, line.bytes(s));
+        }
         at = next.at;
         left = next.left;
     }

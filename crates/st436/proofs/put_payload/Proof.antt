@@ -3,7 +3,7 @@ use mathlib.Core.Path.{sym}
 use native.Mathlib.Omega.{arith}
 use Rattle.text.proofs.Putting.{length-put}
 use Rattle.st436.proofs.Laws.{step-found}
-use Rattle.st436.proofs.Payloads.{Going, going-start, going-next, going-end}
+use Rattle.st436.proofs.Payloads.{Going, going-start, going-next, going-none, going-end}
 use borrow.Author.Needs.{needs}
 use Rattle.st436.proofs.put_payload.Statement.{statement}
 use Rattle.st436.proofs.put_payload.Tie as tie
@@ -43,14 +43,24 @@ put-all-requires c κs = search needs
 
 loop-less : tie.Need-loop-less Inv-loop μ-loop
 loop-less c =
-    let m = c .before .before .before .before .before .before in
+    let m = c .before .before .before .before .before .before .before .before in
     omega (arith, step-found _ _ _ _ _ (sym (rw (m .t .given .1) at (m .before .before .step .ensures))))
 
 loop-again : tie.Need-loop-again Inv-loop μ-loop
 loop-again c =
     let p = c .before .before in
-    let m = p .before .before .before .before in
+    let m = p .before .before .before .before .before .before in
     going-next _ _ _ _ _ _ (m .before .before .before .loop .inv) _ _ (rw (m .t .given .1) at (m .before .before .step .ensures)) _ _ _ (p .before .bytes .ensures) (p .put-all .ensures)
+
+loop-less-2 : tie.Need-loop-less-2 Inv-loop μ-loop
+loop-less-2 c =
+    let m = c .before .before .before in
+    omega (arith, step-found _ _ _ _ _ (sym (rw (m .t .given .1) at (m .before .before .step .ensures))))
+
+loop-again-2 : tie.Need-loop-again-2 Inv-loop μ-loop
+loop-again-2 c =
+    let m = c .before .before .before in
+    going-none _ _ _ _ _ _ (m .before .before .before .loop .inv) _ _ (rw (m .t .given .1) at (m .before .before .step .ensures)) (omega arith)
 
 pub put-payload-spec : {M : Type 1} → statement M
 put-payload-spec =
@@ -68,4 +78,6 @@ put-payload-spec =
     bytes-requires
     put-all-requires
     loop-less
-    loop-again)
+    loop-again
+    loop-less-2
+    loop-again-2)
