@@ -45,18 +45,17 @@ pub fn feed_records(state: &mut [u64; 10], piece: &[u8], room: &mut [u64], label
     out
 }
 
-/// What a step of a run writes out.
-pub fn run(s: &[u8], at: usize) -> [u64; 7] {
-    let mut out = [0; 7];
-    unsafe { brine_run(s.as_ptr(), s.len(), at, &mut out) };
-    out
+/// What a step over a run or a set writes: found, place, value's place and length, next cursor, the length's form.
+pub type Item = [u64; 7];
+
+/// A step of a run, into lent places.
+pub fn run(s: &[u8], at: usize, out: &mut Item) {
+    unsafe { brine_run(s.as_ptr(), s.len(), at, out) };
 }
 
-/// What a step over a set's items writes out.
-pub fn item(s: &[u8], tag: usize, ber: bool, at: usize) -> [u64; 7] {
-    let mut out = [0; 7];
-    unsafe { brine_item(s.as_ptr(), s.len(), tag, ber, at, &mut out) };
-    out
+/// A step over a set's items, into lent places.
+pub fn item(s: &[u8], tag: usize, ber: bool, at: usize, out: &mut Item) {
+    unsafe { brine_item(s.as_ptr(), s.len(), tag, ber, at, out) };
 }
 
 /// Whether two labels are the same.

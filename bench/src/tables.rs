@@ -56,17 +56,35 @@ fn primers(rows: &mut Vec<Row>) {
     rows.push(all);
 }
 
-/// The lengths that steps give, together, from the first cursor to the end.
-fn lengths<const PLACES: usize>(step: impl Fn(usize) -> [u64; PLACES]) -> u64 {
+/// The lengths that steps give, together, from the first cursor to the end: each says whether an item is found, its length and
+/// the next cursor.
+fn lengths(mut step: impl FnMut(usize) -> [u64; 3]) -> u64 {
     let (mut at, mut sum) = (0, 0);
     loop {
-        let places = step(at);
-        if places[0] == 0 {
+        let [found, length, next] = step(at);
+        if found == 0 {
             return sum;
         }
-        sum += places[3];
-        at = places[4] as usize;
+        sum += length;
+        at = next as usize;
     }
+}
+
+/// The same of the port's steps, whose places are lent once.
+fn port_lengths(step: impl Fn(usize, &mut port::Item)) -> u64 {
+    let mut out = port::Item::default();
+    lengths(|at| {
+        step(at, &mut out);
+        [out[0], out[3], out[4]]
+    })
+}
+
+/// The same of the Rust's, which returns its places.
+fn rust_lengths(step: impl Fn(usize) -> [u64; 5]) -> u64 {
+    lengths(|at| {
+        let [found, _, _, length, next] = step(at);
+        [found, length, next]
+    })
 }
 
 /// A set of so many items with tags and lengths of 2 bytes.
@@ -84,15 +102,15 @@ fn set(items: u16, length: usize) -> Vec<u8> {
 /// Runs and local items, stepped through by exported calls.
 fn items(rows: &mut Vec<Row>) {
     let run = kept(records(2000, 1, (0, 20), (0, 0)));
-    let port = || lengths(|at| port::run(run, at));
-    rows.push(row("run of some 75 KLVs: a call each on both sides", Some(1.0), port, || lengths(|at| mxf::run_step(run, at))));
+    let port = || port_lengths(|at, out| port::run(run, at, out));
+    rows.push(row("run of some 75 KLVs: a call each on both sides", Some(1.0), port, || rust_lengths(|at| mxf::run_step(run, at))));
     rows.push(row("run of some 75 KLVs: a call each, the Rust's loop inlined", None, port, || mxf::run_lengths(run)));
     let long = kept(records(4000, 4, (0, 40), (0, 0)));
-    let port = || lengths(|at| port::run(long, at));
-    rows.push(row("run of some 100 KLVs, lengths of 4 bytes: a call each", Some(1.0), port, || lengths(|at| mxf::run_step(long, at))));
+    let port = || port_lengths(|at, out| port::run(long, at, out));
+    rows.push(row("run of some 100 KLVs, lengths of 4 bytes: a call each", Some(1.0), port, || rust_lengths(|at| mxf::run_step(long, at))));
     let local = kept(set(50, 8));
-    let port = || lengths(|at| port::item(local, 2, false, at));
-    rows.push(row("50 local items: a call each on both sides", Some(1.0), port, || lengths(|at| arri::item_step(local, false, at))));
+    let port = || port_lengths(|at, out| port::item(local, 2, false, at, out));
+    rows.push(row("50 local items: a call each on both sides", Some(1.0), port, || rust_lengths(|at| arri::item_step(local, false, at))));
     rows.push(row("50 local items: a call each, the Rust's loop inlined", None, port, || arri::item_lengths(local, false)));
     let (a, b) = (&run[..16], kept(run[..16].to_vec()));
     rows.push(row("same label", Some(1.0), || port::same_label(a, b) as u64, || mxf::same_label(a, b) as u64));
