@@ -130,7 +130,7 @@ static const struct {
     CALL(item), CALL(outline), CALL(header), CALL(primer), CALL(primer_table), ONCE(do_primer_table, primer_in), CALL(arri_block),
     CALL(payload), CALL(line), CALL(descriptor), CALL(sony_step), CALL(arri_step), CALL(sony_arrive), CALL(arri_arrive),
     CALL(canon_step), CALL(fed_sony_limit), CALL(fed_sony_end), CALL(fed_arri_limit), CALL(fed_arri_end),
-    AFTER(opened_frames, feed_frame), AFTER(opened_frames, close_frames), CALL(of_dynamic), CALL(of_alexa35), CALL(arri_values),
+    AFTER(opened_frames, feed_frame), AFTER(opened_frames, close_frames), CALL(of_dynamic), CALL(of_alexa35), CALL(arri_values), CALL(takes_step),
     CALL(package), CALL(camera), CALL(sequence), CALL(strict), CALL(random_index), CALL(pair), CALL(shortest), CALL(put_length),
     CALL(put_klv), CALL(rewrite), CALL(put_item), CALL(put_primer), CALL(put_pack), ONCE(do_tally, group), CALL(index_add),
     CALL(index_find), CALL(index_columns), CALL(index_rows), CALL(shared_set_up), AFTER(set_up, shared_open),
