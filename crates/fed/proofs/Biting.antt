@@ -9,29 +9,28 @@ use borrow.Author.Tests.{le-leb, lt-leb}
 use lib.ListN.{length, take, drop}
 use types.Run.{OneOf}
 use denote.Enum.Declared.{tagOf}
-use Rattle.steps.specs.Told.{ToldAt, found, nothing}
+use Rattle.steps.specs.Told.{nothing}
 use Rattle.lengths.specs.declared.Field.{Field}
 use Rattle.lengths.specs.declared.Length.{Length}
 use Rattle.lengths.specs.declared.Length.the-variants.{Is, Cut, None}
 use Rattle.lengths.specs.Length.{lengthAt}
 use Rattle.lengths.proofs.Laws as lengths
 use Rattle.klv.specs.declared.Klv.{Klv}
-use Rattle.klv.specs.Item.{Item}
 use Rattle.fed_states.specs.declared.State.{State}
 use Rattle.fed_states.specs.State.{lengthOf}
 use Rattle.fed_states.proofs.Laws.{come}
-use Rattle.steps.specs.Passed.{Passed}
 use Rattle.fed_bytes.specs.Eat.{turned, turnOf}
-use Rattle.fed_bytes.specs.Feed.{Taken, took, after, upTo, eats}
+use Rattle.fed_bytes.specs.Feed.{Taken, took, upTo}
 use Rattle.fed_bytes.specs.Fill.{filled}
-use Rattle.fed_bytes.proofs.Laws.{Room, turned-room, Turned, cut, none, whole, waits, late, turn-case}
-use Rattle.fed_bytes.proofs.Coming.{Comes, comes-cut, comes-waits, comes-none, comes-late, comes-record}
+use Rattle.fed_bytes.proofs.Laws.{Room, turned-room, turn-case}
+use Rattle.fed_bytes.proofs.Coming.{comes-cut, comes-waits, comes-none, comes-late, comes-record}
 use Rattle.fed.specs.declared.Answer.{Answer}
 use Rattle.fed.specs.declared.Answer.the-variants.{Nothing, Record, TooMuch, Closed}
 use Rattle.fed.specs.declared.Eaten.{Eaten}
 use Rattle.fed.specs.declared.Fed.{Fed}
 use Rattle.fed.specs.Told.{answerTold, eatenTold, fedTold}
-use Rattle.fed.specs.Parts.{having, dueOf, onward, Bitten}
+use Rattle.fed.specs.Parts.{reaches, having, dueOf, onward, Bitten}
+use Rattle.fed.proofs.Starting.{reaches-bytewise}
 use Rattle.fed.proofs.Laws.{after-told, told-nothing, no-record}
 use Rattle.fed.proofs.Answer.{the-type}
 
@@ -63,7 +62,7 @@ none-behind st h e =
     let y : _≡_ {A = ℕ} 0 1 = cc in omega arith
 
 -- an answer goes on where its state and count say
-onward-is : (piece label : List ℕ) (x : Answer) (s : State) (m : ℕ) → onward piece (answerTold label (took s m) x) ≡ upTo (λ t. eats t (drop m piece) m) m (answerTold label s x)
+onward-is : (piece label : List ℕ) (x : Answer) (s : State) (m : ℕ) → onward piece (answerTold label (took s m) x) ≡ upTo (λ t. reaches t (drop m piece) m) m (answerTold label s x)
 unfolding onward upTo
 onward-is piece label (Record k n) s m = refl
 onward-is piece label Nothing s m = refl
@@ -72,23 +71,14 @@ onward-is piece label Closed s m = refl
 
 -- what was taken at once, by the answer: a record, or the bytes that are left
 module _ (st : State) (piece : List ℕ) (i : ℕ) (r : Fed) (b : Bitten st piece i r) where
-  pub bitten-record : (k : Klv) (n : ℕ) → r .answer ≡ Record k n → fedTold (record { state = r .state; taken = r .taken; answer = Record k n }) ≡ eats st (drop i piece) i
+  pub bitten-record : (k : Klv) (n : ℕ) → r .answer ≡ Record k n → fedTold (record { state = r .state; taken = r .taken; answer = Record k n }) ≡ reaches st (drop i piece) i
   unfolding onward
   bitten-record k n e = ap (λ (x : Answer). onward piece (answerTold (r .state .label) (took (r .state) (r .taken)) x)) (sym e) ∙ b .goes
 
-  pub bitten-on : OneOf (0 ∷ 2 ∷ 3 ∷ []) (tagOf the-type (r .answer)) → eats (r .state) (drop (r .taken) piece) (r .taken) ≡ eats st (drop i piece) i
+  pub bitten-on : OneOf (0 ∷ 2 ∷ 3 ∷ []) (tagOf the-type (r .answer)) → reaches (r .state) (drop (r .taken) piece) (r .taken) ≡ reaches st (drop i piece) i
   bitten-on o =
-      sym (no-record (r .state .label) (r .answer) (r .state) (λ s. eats s (drop (r .taken) piece) (r .taken)) (r .taken) o)
+      sym (no-record (r .state .label) (r .answer) (r .state) (λ s. reaches s (drop (r .taken) piece) (r .taken)) (r .taken) o)
       ∙ sym (onward-is piece (r .state .label) (r .answer) (r .state) (r .taken)) ∙ b .goes
-
--- the walk stays open
-turned-live : (st : State) (r : ToldAt State (Passed Item)) → Turned st r → after r .live ≡ st .live
-unfolding after
-turned-live st r (cut l) = refl
-turned-live st r (none l) = refl
-turned-live st r (whole f l m) = refl
-turned-live st r (waits f l m n) = refl
-turned-live st r (late f l m n) = refl
 
 -- The bytes of a piece from i on, behind a key's start
 
@@ -107,7 +97,7 @@ module _ (st : State) (piece : List ℕ) (i : ℕ) (inside : i < length piece) (
 
   -- nothing comes of them
   pub bitten-quiet : (r : Fed) → fedTold r ≡ nothing (took (having kept (st .have + (length piece - i))) (length piece))
-      → eats st (drop i piece) i ≡ eats (having kept (st .have + (length piece - i))) (drop (i + (length piece - i)) piece) (i + (length piece - i)) → Bitten st piece i r
+      → reaches st (drop i piece) i ≡ reaches (having kept (st .have + (length piece - i))) (drop (i + (length piece - i)) piece) (i + (length piece - i)) → Bitten st piece i r
   unfolding onward
   bitten-quiet r e g =
       let t = told-nothing (r .state .label) (r .answer) (took (r .state) (r .taken)) _ e in
@@ -118,14 +108,13 @@ module _ (st : State) (piece : List ℕ) (i : ℕ) (inside : i < length piece) (
         up = omega arith;
         most = omega arith;
         same = ap (λ (x : State). x .limit) s;
-        live = ap (λ (x : State). x .live) s;
         fits = omega (arith, ap (λ (x : State). x .at) s, ap (λ (x : State). x .have) s);
         goes = ap (onward piece) e ∙ sym (rw z at g);
       }
 
   -- something comes of the byte with which e have come
   pub bitten-comes : (e : ℕ) → st .have < e → e ≤ st .have + (length piece - i) → 17 ≤ e → (x : Eaten) → eatenTold x ≡ turned (having kept e) (turnOf (having kept e))
-      → eats st (drop i piece) i ≡ upTo (λ s. eats s (drop (i + (e - st .have)) piece) (i + (e - st .have))) (i + (e - st .have)) (turned (having kept e) (turnOf (having kept e)))
+      → reaches st (drop i piece) i ≡ upTo (λ s. reaches s (drop (i + (e - st .have)) piece) (i + (e - st .have))) (i + (e - st .have)) (turned (having kept e) (turnOf (having kept e)))
       → Bitten st piece i (record { state = x .state; taken = i + (e - st .have); answer = x .answer })
   bitten-comes e h w b x is g =
       let m = i + (e - st .have) in
@@ -135,14 +124,13 @@ module _ (st : State) (piece : List ℕ) (i : ℕ) (inside : i < length piece) (
         up = omega arith;
         most = omega arith;
         same = r .same;
-        live = rw (after-told (x .state .label) (x .answer) (x .state)) at (rw (sym is) at (turned-live (having kept e) _ (turn-case (having kept e))));
         fits = r .fits;
-        goes = onward-is piece (x .state .label) (x .answer) (x .state) m ∙ ap (upTo (λ s. eats s (drop m piece) m) m) is ∙ sym g;
+        goes = onward-is piece (x .state .label) (x .answer) (x .state) m ∙ ap (upTo (λ s. reaches s (drop m piece) m) m) is ∙ sym g;
       }
 
   -- which of the two, by the length behind the last byte that is kept
-  pub comes-never : lengthOf kept ≡ Cut → eats st (drop i piece) i ≡ eats (having kept (st .have + (length piece - i))) (drop (i + (length piece - i)) piece) (i + (length piece - i))
-  comes-never x = comes-cut st piece i four few more (omega arith) enough (omega arith) fits i x
+  pub comes-never : lengthOf kept ≡ Cut → reaches st (drop i piece) i ≡ reaches (having kept (st .have + (length piece - i))) (drop (i + (length piece - i)) piece) (i + (length piece - i))
+  comes-never x = comes-cut st piece i four few more (omega arith) enough (omega arith) fits reaches reaches-bytewise i x
 
   module _ (l : Length) (is : lengthOf kept ≡ l) (some : l ≡ Cut → ⊥) (e : ℕ) (due : e ≡ max (dueOf kept l) (st .have + 1)) where
     pub due-late-enough : 17 ≤ e
@@ -156,11 +144,11 @@ module _ (st : State) (piece : List ℕ) (i : ℕ) (inside : i < length piece) (
             by-cases (decLt (st .limit) (st .at + 16 + f .size + f .value)) (λ h. omega (arith, due-late kept f h, c .some)) (λ h. omega (arith, due-fits kept f (omega arith), c .some))
 
     pub comes-later : st .have + (length piece - i) < e
-        → eats st (drop i piece) i ≡ eats (having kept (st .have + (length piece - i))) (drop (i + (length piece - i)) piece) (i + (length piece - i))
+        → reaches st (drop i piece) i ≡ reaches (having kept (st .have + (length piece - i))) (drop (i + (length piece - i)) piece) (i + (length piece - i))
     comes-later h = go l is due some
       where
         go : (l : Length) → lengthOf kept ≡ l → e ≡ max (dueOf kept l) (st .have + 1) → (l ≡ Cut → ⊥)
-            → eats st (drop i piece) i ≡ eats (having kept (st .have + more)) (drop (i + more) piece) (i + more)
+            → reaches st (drop i piece) i ≡ reaches (having kept (st .have + more)) (drop (i + more) piece) (i + more)
         go Cut x d s = absurd (s refl)
         go None x d s = absurd (omega (arith, due-none kept, some-behind x))
           where
@@ -169,22 +157,22 @@ module _ (st : State) (piece : List ℕ) (i : ℕ) (inside : i < length piece) (
         go (Is f) x d s =
             let c = come kept f x in
             by-cases (decLt (st .limit) (st .at + 16 + f .size + f .value)) (λ o. absurd (omega (arith, due-late kept f o, c .behind)))
-            (λ o. comes-waits st piece i four few more (omega arith) enough (omega arith) fits i f x (omega arith) (omega (arith, due-fits kept f (omega arith))))
+            (λ o. comes-waits st piece i four few more (omega arith) enough (omega arith) fits reaches reaches-bytewise i f x (omega arith) (omega (arith, due-fits kept f (omega arith))))
 
-    pub comes-now : (w : e ≤ st .have + (length piece - i)) → eats st (drop i piece) i
-        ≡ upTo (λ s. eats s (drop (i + (e - st .have)) piece) (i + (e - st .have))) (i + (e - st .have)) (turned (having kept e) (turnOf (having kept e)))
+    pub comes-now : (w : e ≤ st .have + (length piece - i)) → reaches st (drop i piece) i
+        ≡ upTo (λ s. reaches s (drop (i + (e - st .have)) piece) (i + (e - st .have))) (i + (e - st .have)) (turned (having kept e) (turnOf (having kept e)))
     comes-now w = go l is due some
       where
         b : 17 ≤ e
         b = due-late-enough
 
         go : (l : Length) → lengthOf kept ≡ l → e ≡ max (dueOf kept l) (st .have + 1) → (l ≡ Cut → ⊥)
-            → eats st (drop i piece) i ≡ upTo (λ s. eats s (drop (i + (e - st .have)) piece) (i + (e - st .have))) (i + (e - st .have)) (turned (having kept e) (turnOf (having kept e)))
+            → reaches st (drop i piece) i ≡ upTo (λ s. reaches s (drop (i + (e - st .have)) piece) (i + (e - st .have))) (i + (e - st .have)) (turned (having kept e) (turnOf (having kept e)))
         go Cut x d s = absurd (s refl)
         go None x d s =
-            comes-none st piece i four few more (omega arith) enough (omega arith) fits i e (omega (arith, due-none kept)) w b x
+            comes-none st piece i four few more (omega arith) enough (omega arith) fits reaches reaches-bytewise i e (omega (arith, due-none kept)) w b x
             (by-cases (decLt (st .have + few) 17) (λ o. absurd (none-behind kept o x)) (λ o. omega arith)) (d ∙ rw (due-none kept))
         go (Is f) x d s =
             by-cases (decLt (st .limit) (st .at + 16 + f .size + f .value))
-            (λ o. comes-late st piece i four few more (omega arith) enough (omega arith) fits i e (omega arith) w b f x o (d ∙ rw (due-late kept f o)))
-            (λ o. comes-record st piece i four few more (omega arith) enough (omega arith) fits i e (omega arith) w b f x (omega arith) (d ∙ rw (due-fits kept f (omega arith))))
+            (λ o. comes-late st piece i four few more (omega arith) enough (omega arith) fits reaches reaches-bytewise i e (omega arith) w b f x o (d ∙ rw (due-late kept f o)))
+            (λ o. comes-record st piece i four few more (omega arith) enough (omega arith) fits reaches reaches-bytewise i e (omega arith) w b f x (omega arith) (d ∙ rw (due-fits kept f (omega arith))))

@@ -14,7 +14,8 @@ use Rattle.fed_states.specs.State.{sought}
 use Rattle.fed_states.proofs.Laws.{sound-within}
 use Rattle.fed_bytes.specs.Feed.{eats, feedOf}
 use Rattle.fed_bytes.proofs.Laws.{eats-nothing, feed-eats}
-use Rattle.fed.specs.Parts.{startsOf, breaksOf, searchesOf, Searching}
+use Rattle.fed.specs.Parts.{startsOf, breaksOf, searchesOf}
+use Rattle.fed.proofs.Reaching.{Searching}
 use Rattle.fed.proofs.Starting.{starts-eats, goes-on}
 
 -- at a byte

@@ -1,7 +1,7 @@
 pub mod Laws
 pub mod Starting
-pub mod Breaking
 pub mod Biting
 pub mod Reaching
+pub mod Breaking
 pub mod Arriving
 pub mod Once

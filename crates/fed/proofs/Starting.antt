@@ -3,10 +3,12 @@ use Prim.Native.Nat.{ℕ, _+_, _-_, _≤_, _<_}
 use mathlib.Core.Path.{_≡_, sym, ap, _∙_}
 use mathlib.Core.Bool.{true, false, not, false≢true}
 use mathlib.Core.Logic.{_⊎_, by-cases, ⊎-elim}
+use native.Mathlib.Numerals.{add-one}
 use native.Mathlib.Omega.{arith}
 use native.Mathlib.Decide.{decLt}
-use mathlib.Core.List.{List}
-use lib.ListN.{length, getD, drop}
+use mathlib.Core.List.{List, _∷_}
+use lib.ListN.{length, getD, drop, drop-of-length-le}
+use lib.Seq.{drop-cons}
 use lib.Dec.{eqb}
 use borrow.Author.Tests.{le-ltb, lt-ltb, eq-eqb, ne-eqb}
 use Rattle.steps.specs.Told.{nothing}
@@ -14,10 +16,10 @@ use Rattle.labels.specs.Label.{keyStart}
 use Rattle.fed_states.specs.declared.State.{State}
 use Rattle.fed_states.specs.State.{sought}
 use Rattle.fed_bytes.specs.Eat.{seekOf, eatOf}
-use Rattle.fed_bytes.specs.Feed.{eats}
-use Rattle.fed_bytes.proofs.Laws.{eq-or, seek-next, seek-first, seek-none, eat-seek, takes-nothing}
+use Rattle.fed_bytes.specs.Feed.{took, upTo}
+use Rattle.fed_bytes.proofs.Laws.{eq-or, seek-next, seek-first, seek-none, eat-seek, Bytewise}
 use Rattle.fed.specs.declared.Answer.the-variants.{Nothing}
-use Rattle.fed.specs.Parts.{startsOf, onward, Bitten}
+use Rattle.fed.specs.Parts.{startsOf, reaches, onward, Bitten}
 
 module _ (have b : ℕ) where
   pub starts-zero : have ≡ 0 → startsOf have b ≡ true
@@ -59,7 +61,30 @@ goes-on st b s h =
     next : b ≡ getD keyStart (st .have) 0
     next = ⊎-elim (λ e. e) (λ n. absurd (false≢true (sym (starts-start (st .have) b some h ∙ s) ∙ rw (ne-eqb b (getD keyStart (st .have) 0) n)))) (eq-or b (getD keyStart (st .have) 0))
 
--- which is taken by itself
+-- Taking bytes up to where a search starts
+
+-- it goes byte by byte behind a key's start
+pub reaches-bytewise : Bytewise reaches
+unfolding reaches
+reaches-bytewise st b l n h = rw (starts-late (st .have) b h)
+
+module _ (st : State) (piece : List ℕ) (i n : ℕ) where
+  pub reaches-none : length piece ≤ i → reaches st (drop i piece) n ≡ nothing (took st n)
+  unfolding reaches
+  reaches-none h = rw (drop-of-length-le piece h)
+
+  module _ (h : i < length piece) where
+    pub reaches-start : startsOf (st .have) (getD piece i 0) ≡ true → reaches st (drop i piece) n ≡ nothing (took st n)
+    unfolding reaches
+    reaches-start b = rw (drop-cons piece i 0 h, b)
+
+    reaches-silent : startsOf (st .have) (getD piece i 0) ≡ false → (s : State) → eatOf st (getD piece i 0) ≡ nothing s → reaches st (drop i piece) n ≡ reaches s (drop (i + 1) piece) (n + 1)
+    unfolding reaches upTo
+    reaches-silent b s e =
+        let x : drop i piece ≡ getD piece i 0 ∷ drop (i + 1) piece = rw (drop-cons piece i 0 h, add-one) in
+        ap (λ (l : List ℕ). reaches st l n) x ∙ rw (b, e)
+
+-- a byte of a key's start is taken by itself
 pub next-bitten : (st : State) (piece : List ℕ) (i : ℕ) → i < length piece → st .at + st .have + (length piece - i) ≤ st .limit → st .have < 4 → startsOf (st .have) (getD piece i 0) ≡ false
     → (s : State) → s ≡ sought st (st .at) (st .have + 1) → Bitten st piece i (record { state = s; taken = i + 1; answer = Nothing })
 unfolding onward
@@ -68,7 +93,6 @@ next-bitten st piece i h f m b s e =
       up = omega arith;
       most = omega arith;
       same = ap (λ (x : State). x .limit) e;
-      live = ap (λ (x : State). x .live) e;
       fits = omega (arith, ap (λ (x : State). x .at) e, ap (λ (x : State). x .have) e);
-      goes = ap (λ (x : State). eats x (drop (i + 1) piece) (i + 1)) e ∙ sym (takes-nothing st piece i i h (sought st (st .at) (st .have + 1)) (goes-on st (getD piece i 0) b m));
+      goes = ap (λ (x : State). reaches x (drop (i + 1) piece) (i + 1)) e ∙ sym (reaches-silent st piece i i h b (sought st (st .at) (st .have + 1)) (goes-on st (getD piece i 0) b m));
     }

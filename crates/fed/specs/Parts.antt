@@ -2,7 +2,7 @@
 use Prim.Native.Nat.{ℕ, suc, _+_, _-_, _≤_, _<_}
 use mathlib.Core.Path.{_≡_}
 use mathlib.Core.List.{List, [], _∷_}
-use mathlib.Core.Bool.{Bool, true, cond, not, _&&_, _||_}
+use mathlib.Core.Bool.{Bool, cond, not, _&&_, _||_}
 use lib.ListN.{length, getD, drop}
 use lib.Dec.{ltb, leb, eqb}
 use Rattle.steps.specs.Told.{ToldAt, found, nothing, refused}
@@ -11,17 +11,29 @@ use Rattle.lengths.specs.declared.Length.{Length}
 use Rattle.lengths.specs.declared.Length.the-variants.{Is, Cut, None}
 use Rattle.klv.specs.Item.{Item}
 use Rattle.fed_states.specs.declared.State.{State}
-use Rattle.fed_states.specs.State.{sought}
+use Rattle.fed_states.specs.State.{soundOf}
 use Rattle.steps.specs.Passed.{Passed}
-use Rattle.fed_bytes.specs.Feed.{Taken, eats, feedOf}
+use Rattle.fed_bytes.specs.Eat.{eatOf}
+use Rattle.fed_bytes.specs.Feed.{Taken, took, upTo}
 use Rattle.fed_bytes.specs.Fill.{keptFrom}
-use Rattle.fed.specs.declared.Answer.the-variants.{Nothing}
 use Rattle.fed.specs.declared.Fed.{Fed}
 use Rattle.fed.specs.Told.{fedTold}
 
 -- a search for a key starts at this byte: none of it has come, or the byte breaks it off
 unfoldable pub startsOf : ℕ → ℕ → Bool
 startsOf have b = eqb have 0 || (ltb have 4 && not (eqb b (getD keyStart have 0)))
+
+-- the bytes one by one, n having been taken before, up to the one that completes a record, or before which a search starts
+unfoldable pub reaches : State → List ℕ → ℕ → ToldAt Taken (Passed Item)
+reaches st [] n = nothing (took st n)
+reaches st (b ∷ l) n = cond (startsOf (st .have) b) (nothing (took st n)) (upTo (λ s. reaches s l (n + 1)) (n + 1) (eatOf st b))
+
+-- the same of a piece; 5 and 2 as `feedOf` has them
+unfoldable pub reachOf : State → List ℕ → ToldAt Taken (Passed Item)
+reachOf st piece =
+    cond (soundOf st)
+    (cond (ltb (st .limit - (st .at + st .have)) (length piece)) (refused 2 (took st 0)) (reaches st piece 0))
+    (refused 5 (took st 0))
 
 -- how many bytes come before one at which a search starts: all of them where there is none, or a key's start comes whole before it
 unfoldable pub breaksOf : ℕ → List ℕ → ℕ
@@ -47,38 +59,16 @@ dueOf st None = 17
 unfoldable pub restOf : State → List ℕ → ℕ → State
 restOf st l w = cond (leb (st .at + length l) (st .limit) && leb w (length l)) (keptFrom st (st .at) l w) st
 
--- what a piece gives from where an answer that is no record leaves it
+-- what is reached in a piece from where an answer that is no record leaves it
 unfoldable pub onward : List ℕ → ToldAt Taken (Passed Item) → ToldAt Taken (Passed Item)
 onward piece (found r c) = found r c
-onward piece (nothing c) = eats (c .state) (drop (c .taken) piece) (c .taken)
-onward piece (refused n c) = eats (c .state) (drop (c .taken) piece) (c .taken)
+onward piece (nothing c) = reaches (c .state) (drop (c .taken) piece) (c .taken)
+onward piece (refused n c) = reaches (c .state) (drop (c .taken) piece) (c .taken)
 
--- some bytes of a piece from i on, taken at once: what is left gives what all of them give byte by byte
+-- some bytes of a piece from i on, taken at once: what is left reaches what all of them reach byte by byte
 pub record Bitten (st : State) (piece : List ℕ) (i : ℕ) (r : Fed) : Type 0 where
   pub up : i < r .taken
   pub most : r .taken ≤ length piece
   pub same : r .state .limit ≡ st .limit
-  pub live : r .state .live ≡ st .live
   pub fits : r .state .at + r .state .have + (length piece - r .taken) ≤ st .limit
-  pub goes : onward piece (fedTold r) ≡ eats st (drop i piece) i
-
--- what a piece gives from where an answer that is neither a record nor a refusal leaves it
-unfoldable pub resumed : List ℕ → ToldAt Taken (Passed Item) → ToldAt Taken (Passed Item)
-resumed piece (found r c) = found r c
-resumed piece (nothing c) = eats (c .state) (drop (c .taken) piece) (c .taken)
-resumed piece (refused n c) = refused n c
-
--- a search starts where a piece has been taken up to: feeding it goes on as one of which no byte of a key has come
-pub record Searching (st : State) (piece : List ℕ) (s : State) (i : ℕ) : Type 0 where
-  pub inside : i < length piece
-  pub alive : st .live ≡ true
-  pub may : st .at + st .have + length piece ≤ st .limit
-  pub same : s .limit ≡ st .limit
-  pub live : s .live ≡ true
-  pub fits : s .at + s .have + (length piece - i) ≤ st .limit
-  pub is : eats (sought s (s .at + s .have) 0) (drop i piece) i ≡ feedOf st piece
-
--- a piece taken up to a record, or to where a search starts
-pub record Reached (st : State) (piece : List ℕ) (r : Fed) : Type 0 where
-  pub goes : resumed piece (fedTold r) ≡ feedOf st piece
-  pub searching : r .answer ≡ Nothing → r .taken < length piece → Searching st piece (r .state) (r .taken)
+  pub goes : onward piece (fedTold r) ≡ reaches st (drop i piece) i

@@ -8,7 +8,7 @@ ghost use Rattle.fed_bytes.specs.Eat.{turnOf, turned};
 ghost use Rattle.fed_bytes.specs.Feed.{took, eats, feedOf};
 ghost use Rattle.fed_bytes.specs.Fill.{filled, keptFrom};
 ghost use Rattle.fed.specs.Told.{eatenTold, fedTold};
-ghost use Rattle.fed.specs.Parts.{startsOf, breaksOf, searchesOf, having, dueOf, restOf, Bitten, Reached};
+ghost use Rattle.fed.specs.Parts.{startsOf, reachOf, breaksOf, searchesOf, having, dueOf, restOf, Bitten};
 ghost use Rattle.steps.specs.Told.{nothing};
 use fed_states::State;
 use fed_states::gone_on;
@@ -339,7 +339,7 @@ fn walk_on(st: State, piece: &[u8], i: usize) -> Fed
 
 // Takes the piece up to the byte that completes a record, or before which a search starts.
 pub fn reach(st: State, piece: &[u8]) -> Fed
-    ensures { λ r. ⌜ Reached st (now (piece .entry)) r ⌝ }
+    ensures { λ r. ⌜ fedTold r ≡ reachOf st (now (piece .entry)) ⌝ }
 {
     if !sound(st) {
         return Fed {

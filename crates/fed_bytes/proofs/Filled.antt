@@ -8,14 +8,16 @@ use native.Mathlib.Decide.{decLt}
 use borrow.Author.Tests.{le-ltb, lt-ltb}
 use lib.ListN.{length, getD, set, take, drop}
 use lib.Seq.{take-set-le}
-use Rattle.steps.specs.Told.{nothing}
+use Rattle.steps.specs.Told.{ToldAt, nothing}
 use Rattle.lengths.specs.Length.{lengthAt}
 use Rattle.fed_states.specs.declared.State.{State}
 use Rattle.fed_states.specs.State.{lengthOf}
+use Rattle.klv.specs.Item.{Item}
+use Rattle.steps.specs.Passed.{Passed}
 use Rattle.fed_bytes.specs.Eat.{behind, turned, turnOf, eatOf}
-use Rattle.fed_bytes.specs.Feed.{eats}
+use Rattle.fed_bytes.specs.Feed.{Taken}
 use Rattle.fed_bytes.specs.Fill.{labelWith, berWith, filled}
-use Rattle.fed_bytes.proofs.Laws.{eat-label, eat-behind, behind-kept, behind-full, takes-nothing}
+use Rattle.fed_bytes.proofs.Laws.{eat-label, eat-behind, behind-kept, behind-full, Bytewise, byte-silent}
 
 module _ (st : State) (l : List ℕ) (i : ℕ) where
   -- one byte more of each
@@ -110,16 +112,17 @@ module _ (st : State) (l : List ℕ) (i : ℕ) where
   abbrev pub Quiet : ℕ → Type 0
   Quiet m = turned (filled st l i m) (turnOf (filled st l i m)) ≡ nothing (filled st l i m)
 
-  pub takes-filled : (m n : ℕ) → 4 ≤ st .have → i + m ≤ length l → ((j : ℕ) → j ≤ m → 17 ≤ st .have + j → 1 ≤ j → Quiet j)
-      → eats st (drop i l) n ≡ eats (filled st l i m) (drop (i + m) l) (n + m)
-  takes-filled zero n h k q =
+  -- the bytes up to it, in any way that goes byte by byte
+  pub takes-filled : (on : State → List ℕ → ℕ → ToldAt Taken (Passed Item)) → Bytewise on → (m n : ℕ) → 4 ≤ st .have → i + m ≤ length l → ((j : ℕ) → j ≤ m → 17 ≤ st .have + j → 1 ≤ j → Quiet j)
+      → on st (drop i l) n ≡ on (filled st l i m) (drop (i + m) l) (n + m)
+  takes-filled on by zero n h k q =
       let x : i + 0 ≡ i = omega arith in
       let y : n + 0 ≡ n = omega arith in
-      rw (x, y) (ap (λ (s : State). eats s (drop i l) n) (sym filled-none))
-  takes-filled (suc m) n h k q =
+      rw (x, y) (ap (λ (s : State). on s (drop i l) n) (sym filled-none))
+  takes-filled on by (suc m) n h k q =
       let x : i + m + 1 ≡ i + suc m = omega arith in
       let y : n + m + 1 ≡ n + suc m = omega arith in
-      takes-filled m n h (omega arith) (λ j a b c. q j (omega arith) b c)
-      ∙ takes-nothing (filled st l i m) l (i + m) (n + m) (omega arith) (filled st l i (suc m))
+      takes-filled on by m n h (omega arith) (λ j a b c. q j (omega arith) b c)
+      ∙ byte-silent on by (filled st l i m) l (i + m) (n + m) (omega arith) (omega arith) (filled st l i (suc m))
       (by-cases (decLt (st .have + m) 16) (fill-label m h) (λ o. fill-behind m (omega arith) ∙ q (suc m) (omega arith) (omega arith) (omega arith)))
       ∙ rw (x, y)

@@ -201,6 +201,24 @@ module _ (st : State) (piece : List ℕ) (i : ℕ) (n : ℕ) where
     unfolding eats
     takes-same s e = rw (drop-cons piece i 0 h, e)
 
+-- A way of taking bytes that goes byte by byte behind a key's start
+abbrev pub Bytewise : (State → List ℕ → ℕ → ToldAt Taken (Passed Item)) → Type 0
+Bytewise on = (st : State) (b : ℕ) (l : List ℕ) (n : ℕ) → 4 ≤ st .have → on st (b ∷ l) n ≡ upTo (λ s. on s l (n + 1)) (n + 1) (eatOf st b)
+
+pub eats-bytewise : Bytewise eats
+unfolding eats
+eats-bytewise st b l n h = refl
+
+module _ (on : State → List ℕ → ℕ → ToldAt Taken (Passed Item)) (by : Bytewise on) (st : State) (piece : List ℕ) (i n : ℕ) (h : i < length piece) (four : 4 ≤ st .have) where
+  pub byte-taken : on st (drop i piece) n ≡ upTo (λ s. on s (drop (i + 1) piece) (n + 1)) (n + 1) (eatOf st (getD piece i 0))
+  byte-taken =
+      let x : drop i piece ≡ getD piece i 0 ∷ drop (i + 1) piece = rw (drop-cons piece i 0 h, add-one) in
+      ap (λ (l : List ℕ). on st l n) x ∙ by st (getD piece i 0) (drop (i + 1) piece) n four
+
+  pub byte-silent : (s : State) → eatOf st (getD piece i 0) ≡ nothing s → on st (drop i piece) n ≡ on s (drop (i + 1) piece) (n + 1)
+  unfolding upTo
+  byte-silent s e = byte-taken ∙ ap (upTo (λ t. on t (drop (i + 1) piece) (n + 1)) (n + 1)) e
+
 -- Feeding
 
 module _ (st : State) (piece : List ℕ) where

@@ -25,7 +25,7 @@ use Rattle.steps.specs.Passed.{Passed}
 use Rattle.fed_bytes.specs.Eat.{turned, turnOf}
 use Rattle.fed_bytes.specs.Feed.{took, eats}
 use Rattle.fed_bytes.specs.Fill.{labelWith, berWith, filled}
-use Rattle.fed_bytes.proofs.Laws.{turn-cut, turn-none, turn-record, turn-wait, turn-late, takes-none, takes-nothing, takes-found}
+use Rattle.fed_bytes.proofs.Laws.{turn-cut, turn-none, turn-record, turn-wait, turn-late, takes-none, takes-nothing, takes-found, eats-bytewise}
 use Rattle.fed_bytes.proofs.Keys.{key-bytes}
 use Rattle.fed_bytes.proofs.Moved.{length-moved}
 use Rattle.fed_bytes.proofs.Prefixes.{cut-before}
@@ -130,7 +130,7 @@ module _ (st : State) (here : ℕ) (l : List ℕ) (n p : ℕ) (key : keyAt l p �
 
   pub takes-behind : (m : ℕ) → p + 4 + m ≤ length l → ((j : ℕ) → j ≤ m → 13 ≤ j → Quiet (sought st (here + p) 4) l (p + 4) j)
       → seeking st here l n p ≡ eats (after-key m) (drop (p + 4 + m) l) (n + (p + 4) + m)
-  takes-behind m h q = seek-stands st here l n p start key ∙ takes-filled first l (p + 4) m (n + (p + 4)) (omega arith) h (λ j a b c. q j a (omega arith))
+  takes-behind m h q = seek-stands st here l n p start key ∙ takes-filled first l (p + 4) eats eats-bytewise m (n + (p + 4)) (omega arith) h (λ j a b c. q j a (omega arith))
 
   -- until the length is whole, nothing comes of it
   pub quiet-length : (f : Field) → lengthAt l (p + 16) ≡ Is f → (j : ℕ) → j < 12 + f .size → Quiet (sought st (here + p) 4) l (p + 4) j

@@ -16,8 +16,8 @@ use Rattle.fed_states.specs.State.{sought, goneOn, soundOf}
 use Rattle.fed_states.proofs.Laws.{sound-within}
 use Rattle.fed_bytes.specs.Feed.{Taken, took, eats, feedOf}
 use Rattle.fed_bytes.proofs.Laws.{takes-none, takes-same}
-use Rattle.fed.specs.Parts.{Searching}
 use Rattle.fed.proofs.Starting.{starts-zero, starts-eats}
+use Rattle.fed.proofs.Reaching.{Searching}
 use Rattle.fed_pieces.specs.Pieces.{refusalOf, behind, feedOn, Fits}
 use Rattle.fed_pieces.proofs.Going.{Rests}
 use Rattle.fed_pieces.proofs.Laws.{feeds, number-refusal, refusal-none, taken-fits}

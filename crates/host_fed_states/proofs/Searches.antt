@@ -9,7 +9,8 @@ use lib.ListN.{length, drop}
 use Rattle.fed_states.specs.declared.State.{State}
 use Rattle.fed_states.specs.State.{sought}
 use Rattle.fed_bytes.specs.Feed.{eats, feedOf}
-use Rattle.fed.specs.Parts.{searchesOf, Searching}
+use Rattle.fed.specs.Parts.{searchesOf}
+use Rattle.fed.proofs.Reaching.{Searching}
 use Rattle.fed.proofs.Breaking.{searched}
 use Rattle.host_numbers.specs.Numbers.{mark}
 use Rattle.host_fed_states.specs.declared.Search.{Search}

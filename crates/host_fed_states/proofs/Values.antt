@@ -21,7 +21,7 @@ use Rattle.fed_states.specs.State.{goneOn, lengthOf, soundOf}
 use Rattle.fed_states.proofs.Laws.{come, and-left, and-right, sound-within}
 use Rattle.fed_bytes.specs.Feed.{took, upTo, eats, feedOf}
 use Rattle.fed_bytes.specs.Fill.{filled}
-use Rattle.fed_bytes.proofs.Laws.{takes-none, feed-eats, turn-record}
+use Rattle.fed_bytes.proofs.Laws.{takes-none, eats-bytewise, feed-eats, turn-record}
 use Rattle.fed_bytes.proofs.Prefixes.{length-longer}
 use Rattle.fed_bytes.proofs.Filled.{label-none, ber-none, filled-none}
 use Rattle.fed_bytes.proofs.Coming.{counting, comes-waits, comes-record}
@@ -151,7 +151,7 @@ module _ (st : State) (piece : List ℕ) (v : Value) (t : Tells st (length piece
   tells-nothing h =
       let z : 0 + length piece ≡ length piece = omega arith in
       let d = t .due in
-      let e = comes-waits st piece 0 four 0 (length piece) (omega arith) enough (omega arith) (t .may) 0 (t .f) same-length (t .fits) (omega arith) in
+      let e = comes-waits st piece 0 four 0 (length piece) (omega arith) enough (omega arith) (t .may) eats eats-bytewise 0 (t .f) same-length (t .fits) (omega arith) in
       sym (feeds ∙ e ∙ takes-none _ piece (0 + length piece) (0 + length piece) (omega arith) ∙ rw (z, sym (label-none st piece 0), sym (ber-none st piece 0)))
 
   -- or the record
@@ -161,7 +161,7 @@ module _ (st : State) (piece : List ℕ) (v : Value) (t : Tells st (length piece
   tells-record h =
       let d = t .due in
       let e = v .due in
-      let x = comes-record st piece 0 four 0 (length piece) (omega arith) enough (omega arith) (t .may) 0 e (omega (arith, t .less)) h (omega (arith, t .less, t .kept)) (t .f) same-length (t .fits) (omega (arith, t .less)) in
+      let x = comes-record st piece 0 four 0 (length piece) (omega arith) enough (omega arith) (t .may) eats eats-bytewise 0 e (omega (arith, t .less)) h (omega (arith, t .less, t .kept)) (t .f) same-length (t .fits) (omega (arith, t .less)) in
       let l : lengthOf (counting st piece 0 four 0 (length piece) (omega arith) enough (omega arith) (t .may) e) ≡ Is (t .f)
       = rw (sym (ber-none st piece 0)) (length-longer (st .ber) (st .have - 16) (e - 16) (omega (arith, t .less)) (t .f) (t .length)) in
       let r = turn-record (counting st piece 0 four 0 (length piece) (omega arith) enough (omega arith) (t .may) e) (t .f) l (omega (arith, t .less)) in

@@ -4,7 +4,8 @@ use mathlib.Core.Path.{_≡_}
 use native.Mathlib.Omega.{arith}
 use lib.ListN.{length, getD}
 use denote.Ref.{now}
-use Rattle.fed.specs.Parts.{searchesOf, Searching}
+use Rattle.fed.specs.Parts.{searchesOf}
+use Rattle.fed.proofs.Reaching.{Searching}
 use Rattle.fed.proofs.Breaking.{searched}
 use Rattle.fed_states.specs.declared.State.{State}
 use Rattle.host_fed_states.specs.Places.{stateOf}
