@@ -1,7 +1,7 @@
 //! The fed walk beside the arriving walk over the whole buffer, both of the port: what it costs not to have the file.
 
 use crate::inputs::*;
-use crate::measure::{Pass, least};
+use crate::measure::{Clock, Pass};
 use crate::port;
 
 /// The bytes a piece has: a large read, and a packet's.
@@ -105,23 +105,33 @@ fn feed_records(s: &[u8], size: usize) -> u64 {
 }
 
 /// The table: the arriving walk's time, and of the fed one the ratio to it, for both sizes of pieces.
-pub fn table() {
-    println!("\n| 1 MiB | calls | arriving, µs | pieces of 64 KiB | at most | pieces of 1,400 | at most |\n|---|---|---|---|---|---|---|");
+pub fn table(clock: &mut Clock) {
+    println!(
+        "\n| 1 MiB | calls | arriving, µs | pieces of 64 KiB | at most | pieces of 1,400 | at most | by layout |\n|---|---|---|---|---|---|---|---|"
+    );
     for (name, bytes, one, many) in inputs() {
         let s: &'static [u8] = bytes.leak();
-        row(name, "a record each", Box::new(|| arrive(s)), PIECES.map(|size| Box::new(move || feed(s, size)) as Pass), one);
-        row(name, "1,000 records each", Box::new(|| arrivals(s)), PIECES.map(|size| Box::new(move || feed_records(s, size)) as Pass), many);
+        row(name, "a record each", Box::new(|| arrive(s)), PIECES.map(|size| Box::new(move || feed(s, size)) as Pass), one, clock);
+        row(
+            name,
+            "1,000 records each",
+            Box::new(|| arrivals(s)),
+            PIECES.map(|size| Box::new(move || feed_records(s, size)) as Pass),
+            many,
+            clock,
+        );
     }
 }
 
 /// A row measured. The walks must agree.
-fn row(name: &str, calls: &str, arriving: Pass, fed: [Pass; 2], most: [Option<f64>; 2]) {
+fn row(name: &str, calls: &str, arriving: Pass, fed: [Pass; 2], most: [Option<f64>; 2], clock: &mut Clock) {
     let [large, small] = fed;
     let passes = [&arriving, &large, &small];
     for pass in passes {
         assert_eq!(pass(), arriving(), "{name}, {calls}");
     }
-    let [whole, large, small] = least(&passes)[..] else { unreachable!("three passes") };
+    let times = clock.times(&passes);
     let [most_large, most_small] = most.map(|most| most.map_or(String::new(), |most| most.to_string()));
-    println!("| {name} | {calls} | {:.1} | **{:.2}** | {most_large} | **{:.2}** | {most_small} |", whole / 1000.0, large / whole, small / whole);
+    let (whole, large, small, range) = (times.of(0) / 1000.0, times.ratio(1, 0), times.ratio(2, 0), times.range(2, 0));
+    println!("| {name} | {calls} | {whole:.1} | **{large:.2}** | {most_large} | **{small:.2}** | {most_small} | {range} |");
 }

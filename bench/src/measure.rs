@@ -1,7 +1,10 @@
 //! Measuring: the least time of many short passes of which the sides take turns, and each side's instructions.
 
+use std::fs::File;
 use std::hint::black_box;
+use std::io::Write;
 use std::time::{Duration, Instant};
+use std::vec::IntoIter;
 
 /// What a side does in one pass. It answers a number that the sides of a row must agree on.
 pub type Pass = Box<dyn Fn() -> u64>;
@@ -53,4 +56,68 @@ pub fn least(passes: &[&Pass]) -> Vec<f64> {
         rounds += 1;
     }
     least.into_iter().map(|time| time.as_nanos() as f64).collect()
+}
+
+/// Where the times of a table come from. One program's code is laid out in one way, which is worth up to a fifth where a pass is a
+/// few cycles: bench/run has the same program in four layouts, of which each writes its times down, and makes the table of all.
+pub enum Clock {
+    /// The passes are run.
+    Runs,
+    /// The passes are run, and their times written to a file, a line each.
+    Writes(File),
+    /// The times that each program wrote, line by line.
+    Reads(Vec<IntoIter<Vec<f64>>>),
+}
+
+impl Clock {
+    /// A clock that writes to a file.
+    pub fn writing(file: &str) -> Self {
+        Clock::Writes(File::create(file).expect("a file to write times to"))
+    }
+
+    /// A clock that reads what programs wrote.
+    pub fn reading(files: &[&str]) -> Self {
+        let numbers = |line: &str| line.split(' ').map(|time| time.parse().expect("a time")).collect();
+        let lines = |file: &&str| std::fs::read_to_string(file).expect("times").lines().map(numbers).collect::<Vec<_>>().into_iter();
+        Clock::Reads(files.iter().map(lines).collect())
+    }
+
+    /// The least times of passes.
+    pub fn times(&mut self, passes: &[&Pass]) -> Times {
+        match self {
+            Clock::Runs => Times(vec![least(passes)]),
+            Clock::Writes(file) => {
+                let times = least(passes);
+                let line: Vec<_> = times.iter().map(f64::to_string).collect();
+                writeln!(file, "{}", line.join(" ")).expect("times written");
+                Times(vec![times])
+            }
+            Clock::Reads(programs) => Times(programs.iter_mut().map(|lines| lines.next().expect("as many times as passes")).collect()),
+        }
+    }
+}
+
+/// The least times of passes, in each layout.
+pub struct Times(Vec<Vec<f64>>);
+
+impl Times {
+    /// A pass's time, the mean of all layouts.
+    pub fn of(&self, pass: usize) -> f64 {
+        self.0.iter().map(|times| times[pass]).sum::<f64>() / self.0.len() as f64
+    }
+
+    /// One pass's time to another's.
+    pub fn ratio(&self, pass: usize, to: usize) -> f64 {
+        self.of(pass) / self.of(to)
+    }
+
+    /// The least and the largest of the ratios in each layout, as text: nothing where there is one.
+    pub fn range(&self, pass: usize, to: usize) -> String {
+        let ratios = || self.0.iter().map(|times| times[pass] / times[to]);
+        if self.0.len() == 1 {
+            String::new()
+        } else {
+            format!("{:.2} to {:.2}", ratios().fold(f64::MAX, f64::min), ratios().fold(0.0, f64::max))
+        }
+    }
 }
