@@ -17,11 +17,11 @@ pub record Agrees (x y z : ℕ) (a b : List ℕ) : Type 0 where
   pub second : length b ≡ 16
   pub each : (n : ℕ) → n < 16 → (n ≡ x → ⊥) → (n ≡ y → ⊥) → (n ≡ z → ⊥) → getD a n 0 ≡ getD b n 0
 
-and-first : (p q : Bool) → p && q ≡ true → p ≡ true
+pub and-first : (p q : Bool) → p && q ≡ true → p ≡ true
 and-first true q e = refl
 and-first false q e = e
 
-and-second : (p q : Bool) → p && q ≡ true → q ≡ true
+pub and-second : (p q : Bool) → p && q ≡ true → q ≡ true
 and-second true q e = e
 and-second false true e = refl
 and-second false false e = e

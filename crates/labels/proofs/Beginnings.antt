@@ -1,14 +1,16 @@
 -- Laws of beginnings. Assumes nothing.
-use Prim.Native.Nat.{ℕ, suc, _+_, _≤_, _<_}
+use Prim.Native.Nat.{ℕ, zero, suc, _+_, _≤_, _<_}
 use mathlib.Core.Path.{_≡_, refl}
 use mathlib.Core.List.{List, [], _∷_}
-use mathlib.Core.Bool.{true, false, and-false}
+use mathlib.Core.Bool.{true, false, and-false, false≢true}
 use native.Mathlib.Numerals.{add-one}
 use native.Mathlib.Omega.{arith}
-use borrow.Author.Tests.{eq-eqb, ne-eqb}
+use borrow.Author.Tests.{eq-eqb, ne-eqb, eqb-true}
 use lib.ListN.{length, getD, drop, drop-of-length-le}
+use lib.Dec.{eqb}
 use lib.Seq.{drop-cons}
 use Rattle.labels.specs.Label.{beginning}
+use Rattle.labels.proofs.Agreeing.{and-first, and-second}
 
 -- What is left of both from i on: nothing of the first, nothing of the second, or a byte of each
 
@@ -43,3 +45,10 @@ unfolding beginning
 begins-so [] k h same = refl
 begins-so (x ∷ l) [] h same = absurd (omega arith)
 begins-so (x ∷ l) (y ∷ k) h same = rw (eq-eqb x y (same 0 (omega arith)), begins-so l k (omega arith) (λ j m. same (suc j) (omega arith)))
+
+pub begins-bytes : (l k : List ℕ) → beginning l k ≡ true → (j : ℕ) → j < length l → getD l j 0 ≡ getD k j 0
+unfolding beginning
+begins-bytes [] k e j h = absurd (omega arith)
+begins-bytes (x ∷ l) [] e j h = absurd (false≢true e)
+begins-bytes (x ∷ l) (y ∷ k) e zero h = eqb-true _ _ (and-first (eqb x y) _ e)
+begins-bytes (x ∷ l) (y ∷ k) e (suc j) h = begins-bytes l k (and-second (eqb x y) _ e) j (omega arith)

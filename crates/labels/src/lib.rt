@@ -1,7 +1,12 @@
 // Labels: docs/RULES.md, "Lengths and labels". Two labels are the same when both have 16 bytes and agree in all but the
 // byte at 7.
 ghost use mathlib.Core.Path.{_≡_};
-ghost use Rattle.labels.specs.Label.{beginning, agreeBut, sameLabel, codesItems, labelAt, partitionKind};
+ghost use Prim.Native.Nat.{_+_, _≤_};
+ghost use lib.ListN.{length, drop};
+ghost use lib.Dec.{eqb};
+ghost use Rattle.parts.specs.Number.{numberAt};
+ghost use Rattle.labels.specs.Label.{beginning, agreeBut, sameLabel, codesItems, labelAt, partitionPrefix, partitionKind};
+use parts::number;
 
 // What every key starts with: a SMPTE universal label's first bytes (ST 336).
 pub const KEY_START: [u8; 4] = *b"\x06\x0e\x2b\x34";
@@ -78,6 +83,29 @@ pub fn label(s: &[u8], at: usize) -> &[u8]
     parts::part(s, at, 16)
 }
 
+// Whether n bytes at one place are those at another, where n is at most eight: they hold the same number. The compiler loads a number's
+// bytes at once.
+fn same_bytes(a: &[u8], i: usize, b: &[u8], j: usize, n: usize) -> bool
+    requires { ⌜ n ≤ 8 ⌝ }
+    requires { ⌜ i + n ≤ length (now a) ⌝ }
+    requires { ⌜ j + n ≤ length (now b) ⌝ }
+    ensures { λ r. ⌜ r ≡ eqb (numberAt (now (a .entry)) i n) (numberAt (now (b .entry)) j n) ⌝ }
+{
+    let i_end = i + n;
+    let j_end = j + n;
+    number(&a[i..i_end]) == number(&b[j..j_end])
+}
+
+// Whether the partition packs' prefix stands at a place.
+fn prefixed(s: &[u8], at: usize) -> bool
+    requires { ⌜ at + 13 ≤ length (now s) ⌝ }
+    ensures { λ r. ⌜ r ≡ beginning partitionPrefix (drop at (now (s .entry))) ⌝ }
+{
+    let prefix = PARTITION_PREFIX;
+    same_bytes(s, at, &prefix, 0, 8)
+        & (same_bytes(s, at + 8, &prefix, 8, 4) & same_bytes(s, at + 12, &prefix, 12, 1))
+}
+
 // The kind of the partition pack whose label stands at a place, which may lie anywhere: the byte behind the prefix, or 0 where
 // the 14 bytes are not all there or do not start with the prefix.
 pub fn partition_kind(s: &[u8], at: usize) -> u8
@@ -89,7 +117,7 @@ pub fn partition_kind(s: &[u8], at: usize) -> u8
     if s.len() - 14 < at {
         return 0;
     }
-    if !begins(&PARTITION_PREFIX, &s[at..]) {
+    if !prefixed(s, at) {
         return 0;
     }
     s[at + 13]

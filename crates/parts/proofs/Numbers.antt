@@ -2,9 +2,11 @@
 use Prim.Native.Nat.{ℕ, zero, suc, _+_, _*_, _%_, _^_, _≤_, _<_}
 use mathlib.Core.Path.{_≡_, refl}
 use mathlib.Core.List.{List}
+use mathlib.Core.Logic.{by-cases}
 use native.Mathlib.Nat.{pow-le-pow-right, lt-of-lt-of-le, pow-zero, zero-add, add-zero}
 use native.Mathlib.Numerals.{add-one}
 use native.Mathlib.Omega.{arith}
+use native.Mathlib.Decide.{decLt}
 use lib.ListN.{getD}
 use lib.Dec.{lit<}
 use Rattle.parts.specs.Number.{numberAt}
@@ -43,6 +45,21 @@ unfolding numberAt
 number-same s t from zero same = refl
 number-same s t from (suc n) same =
     rw (number-same s t from n (within same from n (omega arith) (omega arith)), same .equal (from + n) (omega arith) (omega arith))
+
+-- Bytes, wherever they stand, and the number that they hold decide each other
+module _ (s t : List ℕ) (at from : ℕ) where
+  pub number-moved : (n : ℕ) → ((j : ℕ) → j < n → getD s (at + j) 0 ≡ getD t (from + j) 0) → numberAt s at n ≡ numberAt t from n
+  unfolding numberAt
+  number-moved zero h = refl
+  number-moved (suc n) h = rw (number-moved n (λ j k. h j (omega arith)), h n (omega arith))
+
+  pub number-bytes : Bytes s → Bytes t → (n : ℕ) → numberAt s at n ≡ numberAt t from n → (j : ℕ) → j < n → getD s (at + j) 0 ≡ getD t (from + j) 0
+  unfolding numberAt
+  number-bytes b c zero e j h = absurd (omega arith)
+  number-bytes b c (suc n) e j h =
+      by-cases (decLt j n)
+      (λ l. number-bytes b c n (omega (arith, e, b (at + n), c (from + n))) j l)
+      (λ l. let w : j ≡ n = omega arith in rw w (omega (arith, e, b (at + n), c (from + n))))
 
 -- the low 64 bits of one byte more: the low 56 bits leave room for it
 pub low-more : (s : List ℕ) (n : ℕ) → getD s n 0 < 256 → numberAt s 0 n % 2 ^ 64 % 2 ^ 56 * 256 + getD s n 0 ≡ numberAt s 0 (n + 1) % 2 ^ 64

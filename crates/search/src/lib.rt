@@ -100,14 +100,14 @@ fn pass(s: &[u8], at: usize) -> usize
     at + k
 }
 
-// The first of 32 places where a key's start stands, else the place after them. The count is fixed, so that the compiler
+// The first of 16 places where a key's start stands, else the place after them. The count is fixed, so that the compiler
 // lays the places out one after the other: a key that is near is found before a block would be tested.
 fn near(s: &[u8], at: usize) -> usize
-    requires { ⌜ at + 35 ≤ length (now s) ⌝ }
-    ensures { λ r. ⌜ (r ≤ at + 32) × Passes (now (s .entry)) at r × (r < at + 32 → keyAt (now (s .entry)) r ≡ true) ⌝ }
+    requires { ⌜ at + 19 ≤ length (now s) ⌝ }
+    ensures { λ r. ⌜ (r ≤ at + 16) × Passes (now (s .entry)) at r × (r < at + 16 → keyAt (now (s .entry)) r ≡ true) ⌝ }
 {
     let mut k = 0;
-    while k < 32 {
+    while k < 16 {
         if stands(s, at + k) {
             return at + k;
         }
@@ -116,7 +116,7 @@ fn near(s: &[u8], at: usize) -> usize
     at + k
 }
 
-// The search in the 32 places that are near, then in blocks, and place by place from the 16 that have a key's start. The last
+// The search in the 16 places that are near, then in blocks, and place by place from the 16 that have a key's start. The last
 // block begins as far back as it must to be whole.
 fn seek(s: &[u8], end: usize, from: usize) -> usize
     requires { ⌜ end ≤ length (now s) ⌝ }
@@ -130,7 +130,7 @@ fn seek(s: &[u8], end: usize, from: usize) -> usize
         return scan(s, end, from);
     }
     let first = near(s, from);
-    if first < from + 32 {
+    if first < from + 16 {
         return first;
     }
     let mut q = first;

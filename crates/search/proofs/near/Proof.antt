@@ -10,10 +10,10 @@ use Rattle.search.proofs.near.Statement.{statement}
 use Rattle.search.proofs.near.Tie as tie
 
 abbrev Inv-loop : tie.InvT-loop
-Inv-loop s at k₀ k = (k ≤ 32) × Passes s at (at + k)
+Inv-loop s at k₀ k = (k ≤ 16) × Passes s at (at + k)
 
 abbrev μ-loop : tie.MeasureT-loop
-μ-loop s at k₀ k = 32 - k
+μ-loop s at k₀ k = 16 - k
 
 loop-holds : tie.Need-loop-holds Inv-loop μ-loop
 loop-holds c = (omega arith, passes-none _ _)
