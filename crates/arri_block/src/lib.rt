@@ -3,7 +3,7 @@
 // lengths) gives its first 256 bytes, if it has them. The first such block is the answer. An item that isn't whole, met
 // before one, or none at all: nothing.
 ghost use mathlib.Core.Path.{_≡_};
-ghost use Prim.Native.Nat.{_≤_, _^_};
+ghost use Prim.Native.Nat.{_+_, _≤_, _^_};
 ghost use lib.ListN.{length};
 ghost use Rattle.klv.specs.Item.{item};
 ghost use Rattle.arri_block.specs.Block.{told, placedAt, firstBytes, inSet, inRunItem, inRun, inElementItem, blockOf, bytesOf, Ends};
@@ -66,13 +66,16 @@ fn in_set(s: &[u8]) -> Block
     }
 }
 
-// The block that a run's item gives, where it is a lens unit set.
+// The block that a run's item gives, where it is a lens unit set. Of two labels that are the same it asks `agree_but`, which the compiler
+// takes in where one is constant.
 fn in_run_item(s: &[u8], k: Klv) -> Block
-    requires { ⌜ k .value ≤ length (now s) ⌝ }
+    requires { ⌜ k .value + k .len ≤ length (now s) ⌝ }
     ensures { λ r. ⌜ told r ≡ inRunItem (now (s .entry)) (item 16 (now (s .entry)) k) ⌝ }
 {
-    if labels::same_label(k.label(s), &LENS_UNIT_SET) {
-        placed_at(k.value, in_set(k.bytes(s)))
+    if labels::agree_but(k.label(s), &LENS_UNIT_SET, 7, 7, 7) {
+        let value = k.value;
+        let end = value + k.len;
+        placed_at(value, in_set(&s[value..end]))
     } else {
         Block::Nothing
     }
@@ -98,11 +101,13 @@ fn in_run(s: &[u8]) -> Block
 
 // The block that an element's item gives, where it is an 88h one.
 fn in_element_item(s: &[u8], k: Klv) -> Block
-    requires { ⌜ k .value ≤ length (now s) ⌝ }
+    requires { ⌜ k .value + k .len ≤ length (now s) ⌝ }
     ensures { λ r. ⌜ told r ≡ inElementItem (now (s .entry)) (item 1 (now (s .entry)) k) ⌝ }
 {
     if one_at(s, k.at) == 0x88 {
-        placed_at(k.value, in_run(k.bytes(s)))
+        let value = k.value;
+        let end = value + k.len;
+        placed_at(value, in_run(&s[value..end]))
     } else {
         Block::Nothing
     }
