@@ -21,10 +21,10 @@ use fed_states::label_at;
 use fed_states::open_end;
 use fed_states::open_limit;
 use host_fed_states::Value;
-use host_fed_states::label_in;
 use host_fed_states::limit_of;
 use host_fed_states::put_behind;
 use host_fed_states::put_done;
+use host_fed_states::put_eight;
 use host_fed_states::put_having;
 use host_fed_states::put_rest;
 use host_fed_states::put_state;
@@ -122,7 +122,8 @@ fn resume(state: &mut [u64; 10], piece: &[u8], label: &mut [u8; 16], out: &mut [
     }
 }
 
-// Takes a piece where a value is waited for: all of it, or up to the value's end.
+// Takes a piece where a value is waited for: all of it, or up to the value's end. The places are put between the label's halves: the
+// compiler makes one store of eight bytes, and none of sixteen in a row.
 fn within(v: Value, state: &mut [u64; 10], piece: &[u8], label: &mut [u8; 16], out: &mut [u64; 8])
     requires { ⌜ Tells (stateOf (now state)) (length (now piece)) v ⌝ }
     ensures { λ r. ⌜ Answers 0 (feedOf (stateOf (now (state .entry))) (now (piece .entry))) (now (state .entry)) (now (label .entry)) (now (out .entry)) (now (state .exit)) (now (label .exit)) (now (out .exit)) ⌝ }
@@ -138,7 +139,7 @@ fn within(v: Value, state: &mut [u64; 10], piece: &[u8], label: &mut [u8; 16], o
     let k = v.klv;
     let shortest = mark(k.shortest);
     let passed = saturating_sub(k.at, state[5] as usize);
-    *label = label_in(state);
+    put_eight(label, 0, state[6]);
     *out = [
         1,
         left as u64,
@@ -149,6 +150,7 @@ fn within(v: Value, state: &mut [u64; 10], piece: &[u8], label: &mut [u8; 16], o
         shortest,
         passed as u64,
     ];
+    put_eight(label, 8, state[7]);
     put_done(state, v.next);
 }
 

@@ -3,14 +3,15 @@ use Prim.Native.Nat.{ℕ, zero, suc, _+_, _*_, _^_, _/_, _%_, _≤_, _<_}
 use mathlib.Core.Path.{_≡_, refl, sym, ap, _∙_}
 use mathlib.Core.List.{List, [], _∷_, _++_, append-nil, append-assoc}
 use native.Mathlib.Omega.{arith}
+use borrow.Author.Tests.{le-leb, lt-leb}
 use lib.ListN.{length, getD, set, take, drop, replicate, getD-replicate, length-append, drop-of-length-le}
-use lib.Seq.{sets, sets-eq, set-comm, length-sets, take-at}
+use lib.Seq.{sets, sets-eq, set-comm, length-sets, length-take-le, take-at}
 use Rattle.parts.specs.Number.{numberAt}
 use Rattle.parts.proofs.Parts.{part-byte}
 use Rattle.labels.specs.Label.{labelAt}
 use Rattle.fed_states.specs.State.{noLabel, noBer, wholeLabel}
 use Rattle.fed_states.proofs.Laws.{label-whole, label-cut}
-use Rattle.host_fed_states.specs.Places.{bytesOf}
+use Rattle.host_fed_states.specs.Places.{bytesOf, eightPut}
 
 pub bytes-length : (n v : ℕ) → length (bytesOf n v) ≡ n
 unfolding bytesOf
@@ -29,6 +30,16 @@ pub put-less : (l : List ℕ) (at i v : ℕ) → sets (set l (at + i) (v % 256))
 unfolding bytesOf
 put-less l at i v = rw (bytes-length i (v / 256)) at (last-first (bytesOf i (v / 256)) l at (v % 256))
 
+-- where there is room for all of them
+module _ (n at : ℕ) (l : List ℕ) where
+  pub eight-put : at + 8 ≤ length l → eightPut n at l ≡ sets l at (bytesOf 8 n)
+  unfolding eightPut
+  eight-put h = rw (le-leb _ _ h)
+
+  pub eight-none : length l < at + 8 → l ≡ eightPut n at l
+  unfolding eightPut
+  eight-none h = rw (lt-leb _ _ h)
+
 -- two numbers' bytes that fill a list are those, one behind the other
 pub two-fill : (a b l : List ℕ) → length a + length b ≡ length l → sets (sets l 0 a) (length a) b ≡ a ++ b
 two-fill a b l h =
@@ -37,17 +48,27 @@ two-fill a b l h =
     sets-eq b (sets l 0 a) (length a) (omega arith)
     ∙ rw (drop-of-length-le (sets l 0 a) {i = length a + length b} (omega arith), sets-eq a l 0 (omega arith), z) (rw append-nil (ap (λ (x : List ℕ). x ++ b) (take-at a (drop (length a) l) (length a) refl)))
 
-pub label-filled : (l : List ℕ) (x y : ℕ) → length l ≡ 16 → sets (sets l 0 (bytesOf 8 x)) 8 (bytesOf 8 y) ≡ bytesOf 8 x ++ bytesOf 8 y
+pub label-filled : (l : List ℕ) (x y : ℕ) → length l ≡ 16 → eightPut y 8 (eightPut x 0 l) ≡ bytesOf 8 x ++ bytesOf 8 y
 label-filled l x y h =
     let a = bytes-length 8 x in
     let b = bytes-length 8 y in
-    rw a at (two-fill (bytesOf 8 x) (bytesOf 8 y) l (omega arith))
+    let n = length-sets l 0 (bytesOf 8 x) in
+    rw (eight-put x 0 l (omega arith), eight-put y 8 (sets l 0 (bytesOf 8 x)) (omega arith)) (rw a at (two-fill (bytesOf 8 x) (bytesOf 8 y) l (omega arith)))
 
-pub ber-filled : (l : List ℕ) (x y : ℕ) → length l ≡ 9 → sets (sets l 0 (bytesOf 8 x)) 8 (bytesOf 1 y) ≡ bytesOf 8 x ++ bytesOf 1 y
+-- at the front of more
+pub front-filled : (l : List ℕ) (x y : ℕ) → 16 ≤ length l → eightPut y 8 (eightPut x 0 (take 16 l)) ++ drop 16 l ≡ sets l 0 (bytesOf 8 x ++ bytesOf 8 y)
+front-filled l x y h =
+    let n = length-append (bytesOf 8 x) (bytesOf 8 y) in
+    let a = bytes-length 8 x in
+    let b = bytes-length 8 y in
+    let e : 0 + length (bytesOf 8 x ++ bytesOf 8 y) ≡ 16 = omega arith in
+    rw (label-filled (take 16 l) x y (length-take-le 16 l h)) (sym (rw e at (sets-eq (bytesOf 8 x ++ bytesOf 8 y) l 0 (omega arith))))
+
+pub ber-filled : (l : List ℕ) (x y : ℕ) → length l ≡ 9 → sets (eightPut x 0 l) 8 (bytesOf 1 y) ≡ bytesOf 8 x ++ bytesOf 1 y
 ber-filled l x y h =
     let a = bytes-length 8 x in
     let b = bytes-length 1 y in
-    rw a at (two-fill (bytesOf 8 x) (bytesOf 1 y) l (omega arith))
+    rw (eight-put x 0 l (omega arith)) (rw a at (two-fill (bytesOf 8 x) (bytesOf 1 y) l (omega arith)))
 
 pub ber-length : (x y : ℕ) → length (bytesOf 8 x ++ bytesOf 1 y) ≡ 9
 ber-length x y = length-append (bytesOf 8 x) (bytesOf 1 y) ∙ rw (bytes-length 8 x, bytes-length 1 y) refl

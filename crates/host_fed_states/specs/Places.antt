@@ -3,7 +3,8 @@ use Prim.Native.Nat.{ℕ, zero, suc, _+_, _-_, _/_, _%_}
 use mathlib.Core.List.{List, [], _∷_, _++_}
 use mathlib.Core.Bool.{Bool, not, cond}
 use lib.ListN.{length, getD}
-use lib.Dec.{eqb, ltb}
+use lib.Dec.{eqb, ltb, leb}
+use lib.Seq.{sets}
 use Rattle.parts.specs.Number.{numberAt}
 use Rattle.fed_states.specs.declared.State.{State}
 use Rattle.fed_states.specs.State.{noLabel, noBer}
@@ -19,6 +20,10 @@ flag n = not (eqb n 0)
 unfoldable pub bytesOf : ℕ → ℕ → List ℕ
 bytesOf zero v = []
 bytesOf (suc n) v = bytesOf n (v / 256) ++ (v % 256 ∷ [])
+
+-- the last eight at a place of some bytes, where there is room for all of them
+unfoldable pub eightPut : ℕ → ℕ → List ℕ → List ℕ
+eightPut n at lent = cond (leb (at + 8) (length lent)) (sets lent at (bytesOf 8 n)) lent
 
 -- the limit, whether it is a known end, whether the walk is open; where the key starts, how many bytes have come from there on,
 -- where walking last went on; the label, eight bytes a number, and the nine bytes behind it

@@ -6,11 +6,10 @@ ghost use mathlib.Core.List.{_++_};
 ghost use mathlib.Core.Bool.{_&&_};
 ghost use lib.ListN.{length};
 ghost use lib.Dec.{leb};
-ghost use lib.Seq.{sets};
 ghost use Rattle.parts.specs.Number.{numberAt};
 ghost use Rattle.fed_states.specs.State.{sought, goneOn, wholeLabel};
 ghost use Rattle.fed.specs.Parts.{having, restOf};
-ghost use Rattle.host_fed_states.specs.Places.{flag, bytesOf, stateOf, statePlaces, placesOf, startOf, seekingOf, keyPlaces};
+ghost use Rattle.host_fed_states.specs.Places.{flag, bytesOf, eightPut, stateOf, statePlaces, placesOf, startOf, seekingOf, keyPlaces};
 ghost use Rattle.host_fed_states.specs.Waited.{nowhere, waitedOf};
 use fed::rest;
 use fed::searches;
@@ -48,11 +47,16 @@ fn eight_at(b: &[u8], at: usize) -> u64
     n
 }
 
-// Puts the eight bytes that hold a number at a place.
-fn put_eight(b: &mut [u8], at: usize, n: u64)
-    requires { ⌜ at + 8 ≤ length (now b) ⌝ }
-    ensures { λ r. ⌜ now (b .exit) ≡ sets (now (b .entry)) at (bytesOf 8 n) ⌝ }
+// Puts the eight bytes that hold a number at a place, where there is room for all of them.
+pub fn put_eight(b: &mut [u8], at: usize, n: u64)
+    ensures { λ r. ⌜ now (b .exit) ≡ eightPut n at (now (b .entry)) ⌝ }
 {
+    if b.len() < 8 {
+        return;
+    }
+    if b.len() - 8 < at {
+        return;
+    }
     let mut rest = n;
     let mut i = 8;
     while 0 < i {
@@ -232,13 +236,6 @@ pub fn waited(s: &[u64; 10], n: usize) -> Value
             shortest: f.shortest,
         },
     }
-}
-
-// The label that is kept.
-pub fn label_in(s: &[u64; 10]) -> [u8; 16]
-    ensures { λ r. ⌜ r ≡ stateOf (now (s .entry)) .label ⌝ }
-{
-    label_of(s[6], s[7])
 }
 
 // Puts all but the limit, which stays, and the flags, which a host may have as any number.
