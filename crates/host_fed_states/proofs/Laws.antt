@@ -2,9 +2,11 @@
 use Prim.Native.Nat.{ℕ, zero, suc, _+_, _*_, _^_, _/_, _%_, _≤_, _<_}
 use mathlib.Core.Path.{_≡_, refl, sym, ap, _∙_}
 use mathlib.Core.List.{List, [], _∷_, _++_, append-nil, append-assoc}
+use native.Mathlib.Nat.{pow-suc, one-le-pow}
 use native.Mathlib.Omega.{arith}
 use borrow.Author.Tests.{le-leb, lt-leb}
 use lib.ListN.{length, getD, set, take, drop, replicate, getD-replicate, length-append, drop-of-length-le}
+use lib.Arith.{mod-mul}
 use lib.Seq.{sets, sets-eq, set-comm, length-sets, length-take-le, take-at}
 use Rattle.parts.specs.Number.{numberAt}
 use Rattle.parts.proofs.Parts.{part-byte}
@@ -117,23 +119,23 @@ byte-behind [] [] x b = refl
 byte-behind [] (y ∷ m) x b = let z : 0 + suc (length m) ≡ suc (0 + length m) = omega arith in rw z (byte-behind [] m x b)
 byte-behind (y ∷ a) m x b = let z : suc (length a) + length m ≡ suc (length a + length m) = omega arith in rw z (byte-behind a m x b)
 
-number-bytes : (n v : ℕ) (a b : List ℕ) → v < 256 ^ n → numberAt (a ++ (bytesOf n v ++ b)) (length a) n ≡ v
+pub number-bytes : (n v : ℕ) (a b : List ℕ) → numberAt (a ++ (bytesOf n v ++ b)) (length a) n ≡ v % 256 ^ n
 unfolding numberAt bytesOf
-number-bytes zero v a b h = omega arith
-number-bytes (suc n) v a b h =
-    let d : v / 256 * 256 + v % 256 ≡ v = omega arith in
+number-bytes zero v a b = omega arith
+number-bytes (suc n) v a b =
+    let d = sym (mod-mul v {m = 256 ^ n} {c = 256} (one-le-pow n 256 (omega arith)) (omega arith)) ∙ ap (λ (x : ℕ). v % x) (sym (pow-suc 256 n)) in
     let p = append-assoc (bytesOf n (v / 256)) (v % 256 ∷ []) b in
     let l = bytes-length n (v / 256) in
     let q : getD (a ++ (bytesOf n (v / 256) ++ (v % 256 ∷ b))) (length a + n) 0 ≡ v % 256 = rw l at (byte-behind a (bytesOf n (v / 256)) (v % 256) b) in
     ap (λ (x : List ℕ). numberAt (a ++ x) (length a) n * 256 + getD (a ++ x) (length a + n) 0) p
-    ∙ rw (number-bytes n (v / 256) a (v % 256 ∷ b) (omega arith), q) d
+    ∙ rw (number-bytes n (v / 256) a (v % 256 ∷ b), q) d
 
 module _ (x y : ℕ) where
   pub first-number : (n : ℕ) → x < 2 ^ 64 → numberAt (bytesOf 8 x ++ bytesOf n y) 0 8 ≡ x
-  first-number n h = number-bytes 8 x [] (bytesOf n y) (omega arith)
+  first-number n h = number-bytes 8 x [] (bytesOf n y) ∙ omega arith
 
   pub last-number : y < 2 ^ 64 → numberAt (bytesOf 8 x ++ bytesOf 8 y) 8 8 ≡ y
-  last-number h = rw (append-nil, bytes-length 8 x) at (number-bytes 8 y (bytesOf 8 x) [] (omega arith))
+  last-number h = (rw (append-nil, bytes-length 8 x) at (number-bytes 8 y (bytesOf 8 x) [])) ∙ omega arith
 
   one-number : bytesOf 1 y ≡ y % 256 ∷ []
   unfolding bytesOf

@@ -7,6 +7,7 @@ ghost use mathlib.Core.Bool.{_&&_};
 ghost use lib.ListN.{length};
 ghost use lib.Dec.{leb};
 ghost use Rattle.parts.specs.Number.{numberAt};
+ghost use Rattle.lengths.specs.Length.{lengthAt};
 ghost use Rattle.fed_states.specs.State.{sought, goneOn, wholeLabel};
 ghost use Rattle.fed.specs.Parts.{having, restOf};
 ghost use Rattle.host_fed_states.specs.Places.{flag, bytesOf, eightPut, stateOf, statePlaces, placesOf, startOf, seekingOf, keyPlaces};
@@ -16,6 +17,7 @@ use fed::searches;
 use fed_states::State;
 use host_numbers::mark;
 use klv::Klv;
+use lengths::Field;
 use lengths::Length;
 use parts::u64_of;
 
@@ -195,6 +197,41 @@ fn may(live: bool, limit: usize, at: usize, have: usize, n: usize) -> bool
     n <= room - have
 }
 
+// The length that nine bytes begin with, by the numbers that hold them. The eight behind the first are one number, whose last bytes are
+// shifted out: twice by half of their bits, since all 64 go where no byte holds the value.
+fn length_of(ber: u64, ninth: u64) -> Length
+    ensures { λ r. ⌜ r ≡ lengthAt (bytesOf 8 ber ++ bytesOf 1 ninth) 0 ⌝ }
+{
+    let first = ber / 0x100_0000_0000_0000;
+    if first < 0x80 {
+        return Length::Is(Field {
+            value: first,
+            size: 1,
+            shortest: true,
+        });
+    }
+    if 0x88 < first {
+        return Length::None;
+    }
+    let n = first - 0x80;
+    let rest = ber % 0x100_0000_0000_0000 * 256 + ninth % 256;
+    let half = 32 - 4 * n;
+    let value = rest >> half >> half;
+    let size = (1 + n) as usize;
+    if n < 2 {
+        return Length::Is(Field {
+            value,
+            size,
+            shortest: 0x80 <= value,
+        });
+    }
+    Length::Is(Field {
+        value,
+        size,
+        shortest: 0x100_0000_0000_0000 <= rest,
+    })
+}
+
 // The value that is waited for, where all that is kept of its key has come and n bytes may come.
 pub fn waited(s: &[u64; 10], n: usize) -> Value
     ensures { λ r. ⌜ r ≡ waitedOf (stateOf (now (s .entry))) n ⌝ }
@@ -209,8 +246,7 @@ pub fn waited(s: &[u64; 10], n: usize) -> Value
     if have < 25 {
         return nowhere();
     }
-    let ber = ber_of(s[8], s[9]);
-    let l = lengths::read(&ber, 0);
+    let l = length_of(s[8], s[9]);
     let Length::Is(f) = l else {
         return nowhere();
     };

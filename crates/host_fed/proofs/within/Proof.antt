@@ -2,7 +2,6 @@
 use native.Mathlib.Omega.{arith}
 use Rattle.host_fed_states.proofs.Laws.{label-filled}
 use Rattle.host_fed_states.proofs.Values.{tells-nothing, tells-record}
-use Rattle.host_fed.specs.Places.{Answers}
 use Rattle.host_fed.proofs.Laws.{is-found, is-nothing}
 use borrow.Author.Needs.{needs}
 use Rattle.host_fed.proofs.within.Statement.{statement}

@@ -1,11 +1,10 @@
 -- `host_fed_states::put_eight` meets its contract: what is put, and the bytes of what is left of the number, is the whole.
-use Prim.Native.Nat.{ℕ, suc, _+_, _-_, _≤_}
+use Prim.Native.Nat.{ℕ, suc, _-_, _≤_}
 use mathlib.Core.Path.{_≡_, refl, sym, _∙_}
 use mathlib.Core.List.{List}
 use native.Mathlib.Omega.{arith}
 use lib.ListN.{length, length-set}
 use lib.Seq.{sets}
-use denote.Ref.{now}
 use Rattle.host_fed_states.specs.Places.{bytesOf}
 use Rattle.host_fed_states.proofs.Laws.{put-less, eight-put, eight-none}
 use borrow.Author.Needs.{needs}
