@@ -7,6 +7,7 @@ ghost use mathlib.Core.Bool.{_&&_};
 ghost use lib.ListN.{length};
 ghost use lib.Dec.{leb};
 ghost use Rattle.parts.specs.Number.{numberAt};
+ghost use Rattle.labels.specs.Label.{keyAt};
 ghost use Rattle.lengths.specs.Length.{lengthAt};
 ghost use Rattle.fed_states.specs.State.{sought, goneOn, wholeLabel};
 ghost use Rattle.fed.specs.Parts.{having, restOf};
@@ -385,6 +386,16 @@ fn put_key(s: &mut [u64; 10], at: usize, since: usize, b: &[u8], w: usize)
     put_places(s, at + w, have, since, first, last, ber, ninth);
 }
 
+// Whether a key stands at a place, and n bytes from there on are all that is kept.
+fn whole_key(b: &[u8], w: usize, n: usize) -> bool
+    ensures { λ r. ⌜ r ≡ leb 25 n && keyAt (now (b .entry)) w ⌝ }
+{
+    if n < 25 {
+        return false;
+    }
+    search::key_at(b, w)
+}
+
 // Whether a place is one of n bytes, or their end, and all of them are within the limit.
 fn among(limit: usize, at: usize, n: usize, w: usize) -> bool
     ensures { λ r. ⌜ r ≡ leb (at + n) limit && leb w n ⌝ }
@@ -408,6 +419,10 @@ pub fn put_rest(s: &mut [u64; 10], at: usize, since: usize, b: &[u8], w: usize)
         return;
     }
     let left = b.len() - w;
+    if whole_key(b, w, left) {
+        put_key(s, at, since, b, w);
+        return;
+    }
     if left == 0 {
         put_sought(s, at + w, 0, since);
         return;
@@ -416,10 +431,6 @@ pub fn put_rest(s: &mut [u64; 10], at: usize, since: usize, b: &[u8], w: usize)
         let q = search::wait_from(b, w);
         let have = b.len() - q;
         put_sought(s, at + q, have, since);
-        return;
-    }
-    if (25 <= left) & search::key_at(b, w) {
-        put_key(s, at, since, b, w);
         return;
     }
     let st = rest(seeking(s, at, since), b, w);

@@ -5,7 +5,7 @@ use mathlib.Core.Bool.{true, _&&_}
 use native.Mathlib.Omega.{arith}
 use borrow.Author.Tests.{not-true, not-false, leb-true}
 use lib.Dec.{leb}
-use lib.ListN.{length, getD}
+use lib.ListN.{length}
 use denote.Ref.{now}
 use Rattle.labels.specs.Label.{keyAt}
 use Rattle.fed_states.specs.declared.State.{State}
@@ -20,33 +20,40 @@ use Rattle.host_fed_states.proofs.put_rest.Tie as tie
 abbrev There : tie.Start → Type 0
 There c = (leb (c .args .at + length (now (c .args .b))) (stateOf (now (c .args .s)) .limit) && leb (c .args .w) (length (now (c .args .b)))) ≡ true
 
-there : (c : tie.Else1) → There (c .before .before .before .before .before)
+abbrev start-of : tie.Else1 → tie.Start
+start-of c = c .before .before .before .before .before
+
+there : (c : tie.Else1) → There (start-of c)
 there c = sym (rw (c .before .before .limit-of .ensures) at (c .before .among .ensures)) ∙ not-false _ (c .if1 .left)
 
-inside-of : (c : tie.Else1) → c .before .before .before .before .before .args .w ≤ length (now (c .before .before .before .before .before .args .b))
-inside-of c = let a = c .before .before .before .before .before .args in inside (stateOf (now (a .s))) (a .at) (a .since) (now (a .b)) (a .w) (there c)
+inside-of : (c : tie.Else1) → start-of c .args .w ≤ length (now (start-of c .args .b))
+inside-of c = let a = start-of c .args in inside (stateOf (now (a .s))) (a .at) (a .since) (now (a .b)) (a .w) (there c)
 
 limit-fits : (c : tie.After-limit-of) → c .limit-of .result < 2 ^ 64
 limit-fits c = search needs
 
-place-fits : (c : tie.Else1) → c .before .before .before .before .before .args .at + c .before .before .before .before .before .args .w < 2 ^ 64
-place-fits c = let a = c .before .before .before .before .before .args in omega (arith, come (stateOf (now (a .s))) (a .at) (a .since) (now (a .b)) (a .w) (there c), inside-of c, limit-fits (c .before .before), c .before .before .limit-of .ensures)
+all-fits : (c : tie.Else1) → start-of c .args .at + length (now (start-of c .args .b)) < 2 ^ 64
+all-fits c = let a = start-of c .args in omega (arith, come (stateOf (now (a .s))) (a .at) (a .since) (now (a .b)) (a .w) (there c), limit-fits (c .before .before), c .before .before .limit-of .ensures)
 
--- where fewer than four bytes wait
-most : (c : tie.After-wait-from) → c .wait-from .result ≤ length (now (c .before .before .before .before .before .before .before .before .args .b))
-most c = let a = c .before .before .before .before .before .before .before .before .args in wait-most (stateOf (now (a .s))) (a .at) (a .since) (now (a .b)) (a .w) (there (c .before .before .before)) _ (c .wait-from .ensures)
-
-wait-fits : (c : tie.After-wait-from) → c .before .before .before .before .before .before .before .before .args .at + c .wait-from .result < 2 ^ 64
-wait-fits c =
-    let a = c .before .before .before .before .before .before .before .before .args in
-    omega (arith, most c, come (stateOf (now (a .s))) (a .at) (a .since) (now (a .b)) (a .w) (there (c .before .before .before)), limit-fits (c .before .before .before .before .before), c .before .before .before .before .before .limit-of .ensures)
+place-fits : (c : tie.Else1) → start-of c .args .at + start-of c .args .w < 2 ^ 64
+place-fits c = omega (arith, inside-of c, all-fits c)
 
 -- a key, and enough bytes behind it
-many : (c : tie.Then4) → c .before .before .before .before .before .before .before .before .before .args .w + 25 ≤ length (now (c .before .before .before .before .before .before .before .before .before .args .b))
-many c = let a = c .before .before .before .before .before .before .before .before .before .args in omega (arith, leb-true 25 (length (now (a .b)) - a .w) (and-left _ (c .before .key-at .result) (c .if4 .taken)))
+is-key : (c : tie.Then2) → (leb 25 (length (now (start-of (c .before .before) .args .b)) - start-of (c .before .before) .args .w) && keyAt (now (start-of (c .before .before) .args .b)) (start-of (c .before .before) .args .w)) ≡ true
+is-key c = sym (c .before .whole-key .ensures) ∙ c .if2 .taken
 
-key : (c : tie.Then4) → keyAt (now (c .before .before .before .before .before .before .before .before .before .args .b)) (c .before .before .before .before .before .before .before .before .before .args .w) ≡ true
-key c = sym (c .before .key-at .ensures) ∙ and-right (leb 25 (length (now (c .before .before .before .before .before .before .before .before .before .args .b)) - c .before .before .before .before .before .before .before .before .before .args .w)) _ (c .if4 .taken)
+many : (c : tie.Then2) → start-of (c .before .before) .args .w + 25 ≤ length (now (start-of (c .before .before) .args .b))
+many c = let a = start-of (c .before .before) .args in omega (arith, leb-true 25 (length (now (a .b)) - a .w) (and-left _ (keyAt (now (a .b)) (a .w)) (is-key c)))
+
+key : (c : tie.Then2) → keyAt (now (start-of (c .before .before) .args .b)) (start-of (c .before .before) .args .w) ≡ true
+key c = let a = start-of (c .before .before) .args in and-right (leb 25 (length (now (a .b)) - a .w)) _ (is-key c)
+
+-- where fewer than four bytes wait
+abbrev else-of : tie.After-wait-from → tie.Else1
+else-of c = c .before .before .before .before .before
+
+most : (c : tie.After-wait-from) → c .wait-from .result ≤ length (now (start-of (else-of c) .args .b))
+most c = let a = start-of (else-of c) .args in wait-most (stateOf (now (a .s))) (a .at) (a .since) (now (a .b)) (a .w) (there (else-of c)) _ (c .wait-from .ensures)
 
 returns : tie.Need-returns
 returns c =
@@ -54,13 +61,15 @@ returns c =
     ∙ ap (λ (t : State). statePlaces t) (rest-barred (stateOf (now (c .before .before .before .before .before .before .before .args .s))) _ _ _ _ (sym (rw (c .before .before .before .before .limit-of .ensures) at (c .before .before .before .among .ensures)) ∙ not-true _ (c .before .before .if1 .taken)))
 
 returns-2 : tie.Need-returns-2
-returns-2 c = c .put-sought2 .ensures ∙ ap (λ (t : State). statePlaces t) (rest-end (stateOf (now (c .before .before .before .before .before .before .before .before .args .s))) _ _ _ _ (there (c .before .before .before)) (c .before .before .if2 .taken))
+returns-2 c = let e = c .before .before .before .before in c .put-key .ensures ∙ rest-key (stateOf (now (start-of e .args .s))) _ _ _ _ (there e) (many (c .before .before)) (key (c .before .before))
 
 returns-3 : tie.Need-returns-3
-returns-3 c = c .put-sought3 .ensures ∙ ap (λ (t : State). statePlaces t) (rest-short (stateOf (now (c .before .before .before .before .before .before .before .before .before .before .args .s))) _ _ _ _ (there (c .before .before .before .before .before)) _ (c .before .before .wait-from .ensures) (c .before .before .before .if3 .taken))
+returns-3 c = let e = c .before .before .before .before .before in c .put-sought2 .ensures ∙ ap (λ (t : State). statePlaces t) (rest-end (stateOf (now (start-of e .args .s))) _ _ _ _ (there e) (c .before .before .if3 .taken))
 
 returns-4 : tie.Need-returns-4
-returns-4 c = c .put-key .ensures ∙ rest-key (stateOf (now (c .before .before .before .before .before .before .before .before .before .before .before .args .s))) _ _ _ _ (there (c .before .before .before .before .before .before)) (many (c .before .before)) (key (c .before .before))
+returns-4 c =
+    let e = else-of (c .before .before) in
+    c .put-sought3 .ensures ∙ ap (λ (t : State). statePlaces t) (rest-short (stateOf (now (start-of e .args .s))) _ _ _ _ (there e) _ (c .before .before .wait-from .ensures) (c .before .before .before .if4 .taken))
 
 returns-5 : tie.Need-returns-5
 returns-5 c = rw (c .put-state .ensures, c .before .before .rest .ensures, c .before .before .before .seeking .ensures) refl
@@ -74,16 +83,16 @@ put-rest-spec =
     (λ c κs. search needs)
     returns
     inside-of
-    (λ c. omega (arith, place-fits (c .before .before)))
     (λ c κs. search needs)
+    (λ c κs. (many (c .before), place-fits (c .before .before .before)))
     returns-2
-    (λ c κs. search needs)
-    (λ c. omega (arith, most c))
-    (λ c. omega (arith, wait-fits (c .before)))
+    (λ c. omega (arith, place-fits (c .before .before .before .before)))
     (λ c κs. search needs)
     returns-3
     (λ c κs. search needs)
-    (λ c κs. (many (c .before), place-fits (c .before .before .before .before .before)))
+    (λ c. omega (arith, most c))
+    (λ c. omega (arith, most (c .before), all-fits (else-of (c .before))))
+    (λ c κs. search needs)
     returns-4
     (λ c κs. search needs)
     (λ c κs. search needs)
