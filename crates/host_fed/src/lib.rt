@@ -158,6 +158,11 @@ fn within(v: Value, state: &mut [u64; 10], piece: &[u8], label: &mut [u8; 16], o
 fn begin(state: &mut [u64; 10], piece: &[u8], label: &mut [u8; 16], out: &mut [u64; 8]) -> Start
     ensures { λ r. ⌜ Begun (stateOf (now (state .entry))) (now (piece .entry)) r (now (state .entry)) (now (label .entry)) (now (out .entry)) (now (state .exit)) (now (label .exit)) (now (out .exit)) ⌝ }
 {
+    let v = waited(state, piece.len());
+    if v.due != 0 {
+        within(v, state, piece, label, out);
+        return ended(0);
+    }
     let b = starting(state, piece);
     if b.taken < piece.len() {
         return Start {
@@ -166,16 +171,11 @@ fn begin(state: &mut [u64; 10], piece: &[u8], label: &mut [u8; 16], out: &mut [u
             status: SEARCHES,
         };
     }
-    let v = waited(state, piece.len());
-    if v.due == 0 {
-        return resume(state, piece, label, out);
-    }
-    within(v, state, piece, label, out);
-    ended(0)
+    resume(state, piece, label, out)
 }
 
 // Takes a piece from one of its bytes on, at a place of the stream where a search starts: it is a buffer that the walk's own step
-// reads.
+// reads. The state is put before the label and the places: until something is put the compiler knows what it read of it.
 fn walk(
     here: usize,
     piece: &[u8],
@@ -201,6 +201,7 @@ fn walk(
             let shortest = mark(k.shortest);
             let passed = saturating_sub(at, since);
             let key = label_at(tail, k.at);
+            put_behind(state, next, tail, k.at);
             *label = key;
             *out = [
                 1,
@@ -212,11 +213,10 @@ fn walk(
                 shortest,
                 passed as u64,
             ];
-            put_behind(state, next, tail, k.at);
         }
         Step::Rests(c) => {
-            *out = [0, piece.len() as u64, 0, 0, 0, 0, 0, 0];
             put_rest(state, here, since, tail, c.at);
+            *out = [0, piece.len() as u64, 0, 0, 0, 0, 0, 0];
         }
         Step::Refused => (),
     }

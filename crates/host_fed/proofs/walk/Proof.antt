@@ -68,15 +68,17 @@ ends c = let g = got c in omega (arith, g .ends, g .most, long (start-of (c .bef
 
 returns : tie.Need-returns
 returns c =
-    λ x. let g = got (c .before .before .before .before .before .before .before .before .before .before) in
-    rw (c .put-behind .ensures, c .before .before .before .label-at .ensures, c .before .before .before .before .saturating-sub .ensures, c .before .before .before .before .before .mark .ensures, label-whole _ _ (g .there), g .ends)
-    (is-found _ x _ _ _ _ (rw (zero (start-of (c .before .before .before .before .before .before .before .before .before .before .before .before .before))) at (g .is)))
+    λ x. let k = c .before .before .before .before .before .before .before .before .before .before in
+    let g = got k in
+    rw (c .before .put-behind .ensures, c .before .before .before .label-at .ensures, c .before .before .before .before .saturating-sub .ensures, c .before .before .before .before .before .mark .ensures, label-whole _ _ (g .there), g .ends)
+    (is-found _ x _ _ _ _ (rw (zero (start-of (k .before .before .before))) at (g .is)))
 
 returns-2 : tie.Need-returns-2
 returns-2 c =
-    λ x. let r = rests (c .before .before .before) in
-    let a = start-of (c .before .before .before .before .before .before) in
-    rw (c .put-rest .ensures, sym (rest-in (state-of a) (tail-of a) (c .before .before .before .before .t2 .given .0 .0 .at) (omega (arith, long a, a .pre .1)) (r .most)))
+    λ x. let k = c .before .before .before in
+    let r = rests k in
+    let a = start-of (k .before .before .before) in
+    rw (c .before .put-rest .ensures, sym (rest-in (state-of a) (tail-of a) (k .before .t2 .given .0 .0 .at) (omega (arith, long a, a .pre .1)) (r .most)))
     (is-nothing _ x _ _ _ (rw (zero a) at (r .is)))
 
 returns-3 : tie.Need-returns-3
