@@ -244,6 +244,10 @@ fn begin(
     requires { ⌜ 16 * most ≤ length (now labels) ⌝ }
     ensures { λ r. ⌜ Begun (stateOf (now (state .entry))) (now (piece .entry)) most r (now (state .entry)) (now (records .entry)) (now (labels .entry)) (now (out .entry)) (now (state .exit)) (now (records .exit)) (now (labels .exit)) (now (out .exit)) ⌝ }
 {
+    let v = waited(state, piece.len());
+    if v.due != 0 {
+        return within(v, state, piece, records, labels, most, out);
+    }
     let b = starting(state, piece);
     if b.taken < piece.len() {
         let since = state[5] as usize;
@@ -255,11 +259,7 @@ fn begin(
             status: SEARCHES,
         };
     }
-    let v = waited(state, piece.len());
-    if v.due == 0 {
-        return resume(state, piece, records, labels, most, out);
-    }
-    within(v, state, piece, records, labels, most, out)
+    resume(state, piece, records, labels, most, out)
 }
 
 // Puts a record of bytes that come at a place of the stream behind n others, and its label.
@@ -310,9 +310,8 @@ fn walk(
     let limit = limit_of(state);
     let mut p = 0;
     let mut since = from;
-    let mut last = 0;
     let mut m = n;
-    while (m < most) & (p < tail.len()) {
+    loop {
         let t = Cursor { at: p, since: p }.arrive(tail, limit - here);
         match t {
             Step::Rests(c) => {
@@ -324,15 +323,17 @@ fn walk(
             Step::Record(r, _, c) => {
                 put_next(records, labels, m, tail, r, here, since);
                 since = here + c.at;
-                last = r.at;
                 p = c.at;
                 m += 1;
+                if (m < most) & (p < tail.len()) {
+                    continue;
+                }
+                *out = [m as u64, (i + p) as u64];
+                put_behind(state, since, tail, r.at);
+                return;
             }
         }
     }
-    let next = here + p;
-    *out = [m as u64, (i + p) as u64];
-    put_behind(state, next, tail, last);
 }
 
 // A call with no room for a record: the piece is refused, or nothing of it is taken.
