@@ -7,7 +7,7 @@ use Rattle.host_fed_states.proofs.whole_key.Statement.{statement}
 use Rattle.host_fed_states.proofs.whole_key.Tie as tie
 
 returns : tie.Need-returns
-returns c = rw (lt-leb _ _ (c .if1 .taken))
+returns c = rw (lt-leb 25 (c .before .before .args .n) (omega (arith, c .if1 .taken)))
 
 returns-2 : tie.Need-returns-2
 returns-2 c = c .key-at .ensures ∙ rw (le-leb 25 (c .before .before .before .args .n) (omega (arith, c .before .if1 .left)))
