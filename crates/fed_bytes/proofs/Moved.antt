@@ -1,11 +1,12 @@
 -- Numbers, key starts and lengths of the bytes from a place on are those of all the bytes at the moved place. Assumes nothing.
-use Prim.Native.Nat.{ℕ, zero, suc, _+_, _-_}
+use Prim.Native.Nat.{ℕ, _+_, _-_}
 use mathlib.Core.Path.{_≡_, refl, ap, _∙_}
 use mathlib.Core.List.{List}
 use native.Mathlib.Omega.{arith}
 use lib.ListN.{length, getD, drop, length-drop}
 use lib.Seq.{getD-drop}
 use Rattle.parts.specs.Number.{numberAt}
+use Rattle.parts.proofs.Numbers.{number-moved}
 use Rattle.labels.specs.Label.{keyAt}
 use Rattle.lengths.specs.declared.Length.{Length}
 use Rattle.lengths.specs.Length.{field, lengthAt}
@@ -30,10 +31,8 @@ module _ (v : ℕ) (s : List ℕ) where
       let c : v + (q + 3) ≡ v + q + 3 = omega arith in
       rw (at-d q, at-d (q + 1), at-d (q + 2), at-d (q + 3), a, b, c)
 
-  number-moved : (from n : ℕ) → numberAt d from n ≡ numberAt s (v + from) n
-  unfolding numberAt
-  number-moved from zero = refl
-  number-moved from (suc n) = let a : v + (from + n) ≡ v + from + n = omega arith in rw (number-moved from n, at-d (from + n), a)
+  number-on : (from n : ℕ) → numberAt d from n ≡ numberAt s (v + from) n
+  number-on from n = number-moved d s from (v + from) n (λ j k. let a : v + (from + j) ≡ v + from + j = omega arith in at-d (from + j) ∙ rw a)
 
   pub length-moved : (at : ℕ) → lengthAt d at ≡ lengthAt s (v + at)
   length-moved at = go (lengthAt s (v + at)) (case s (v + at))
@@ -51,4 +50,4 @@ module _ (v : ℕ) (s : List ℕ) where
       go l (c-long n b m h) =
           let a : v + (at + 1) ≡ v + at + 1 = omega arith in
           lengths.more d at (rw len-d (omega arith)) (rw (at-d at) (omega arith)) (rw (at-d at) (omega arith))
-          ∙ rw (first n b) (lengths.held (field (getD d at 0) (1 + n)) d (at + 1) n (rw len-d (omega arith)) ∙ rw (number-moved (at + 1) n, a, at-d at))
+          ∙ rw (first n b) (lengths.held (field (getD d at 0) (1 + n)) d (at + 1) n (rw len-d (omega arith)) ∙ rw (number-on (at + 1) n, a, at-d at))

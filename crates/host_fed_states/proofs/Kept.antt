@@ -9,6 +9,7 @@ use lib.Dec.{leb}
 use lib.ListN.{length, getD, drop}
 use lib.Seq.{getD-drop, getD-take}
 use Rattle.parts.specs.Number.{numberAt}
+use Rattle.parts.proofs.Numbers.{number-moved}
 use Rattle.labels.specs.Label.{keyAt, labelAt}
 use Rattle.search.specs.Search.{keyBegins, searchFrom, waitFrom}
 use Rattle.search.proofs.Laws.{search-end, key-none, key-here}
@@ -22,7 +23,7 @@ use Rattle.fed_bytes.proofs.Records.{label-is, come-byte}
 use Rattle.fed.specs.Parts.{restOf}
 use Rattle.fed.proofs.Reaching.{rest-in}
 use Rattle.host_fed_states.specs.Places.{statePlaces, keyPlaces, seekingOf}
-use Rattle.host_fed_states.proofs.Laws.{number-moved, half-whole}
+use Rattle.host_fed_states.proofs.Laws.{half-whole}
 
 -- Whether a place is one of some bytes, and they may come
 module _ (limit at n w : ℕ) where
@@ -88,7 +89,7 @@ module _ (st : State) (at since : ℕ) (l : List ℕ) (w : ℕ) where
       byte j o = sym (getD-take (4 + m - 16) (berWith first l (w + 4) m) j 0 (omega arith)) ∙ come-byte s at l 0 w k start m j (omega arith) o ∙ getD-drop (w + 16) l j 0
 
       ber : numberAt l (w + 16) 8 ≡ numberAt (berWith first l (w + 4) m) 0 8
-      ber = sym (number-moved l (berWith first l (w + 4) m) (w + 16) 0 8 (λ j o. let z : 0 + j ≡ j = omega arith in rw z (byte j (omega arith))))
+      ber = sym (number-moved (berWith first l (w + 4) m) l 0 (w + 16) 8 (λ j o. let z : 0 + j ≡ j = omega arith in rw z (byte j (omega arith))))
 
       pub rest-key : keyPlaces st at since l w ≡ statePlaces (restOf (seekingOf st at since) l w)
       rest-key =

@@ -9,6 +9,7 @@ use lib.ListN.{length, getD, set, take, drop, replicate, getD-replicate, length-
 use lib.Arith.{mod-mul}
 use lib.Seq.{sets, sets-eq, set-comm, length-sets, length-take-le, take-at}
 use Rattle.parts.specs.Number.{numberAt}
+use Rattle.parts.proofs.Numbers.{number-moved}
 use Rattle.parts.proofs.Parts.{part-byte}
 use Rattle.labels.specs.Label.{labelAt}
 use Rattle.fed_states.specs.State.{noLabel, noBer, wholeLabel}
@@ -93,11 +94,6 @@ pub label-last : numberAt noLabel 8 8 ≡ 0
 unfolding numberAt
 label-last = refl
 
-pub number-moved : (s t : List ℕ) (at from n : ℕ) → ((j : ℕ) → j < n → getD t (from + j) 0 ≡ getD s (at + j) 0) → numberAt t from n ≡ numberAt s at n
-unfolding numberAt
-number-moved s t at from zero h = refl
-number-moved s t at from (suc n) h = rw (number-moved s t at from n (λ j k. h j (omega arith)), h n (omega arith))
-
 number-none : (s : List ℕ) (from n : ℕ) → ((j : ℕ) → j < n → getD s (from + j) 0 ≡ 0) → numberAt s from n ≡ 0
 unfolding numberAt
 number-none s from zero h = refl
@@ -107,7 +103,7 @@ module _ (b : List ℕ) (at n : ℕ) (h : n ≤ 8) where
   pub half-whole : at + 16 ≤ length b → numberAt b (at + n) 8 ≡ numberAt (wholeLabel b at) n 8
   half-whole m =
       rw (label-whole b at m)
-      (sym (number-moved b (labelAt b at) (at + n) n 8 (λ j k. let e : at + (n + j) ≡ at + n + j = omega arith in part-byte b at 16 (n + j) (omega arith) ∙ rw e)))
+      (sym (number-moved (labelAt b at) b n (at + n) 8 (λ j k. let e : at + (n + j) ≡ at + n + j = omega arith in part-byte b at 16 (n + j) (omega arith) ∙ rw e)))
 
   pub half-cut : length b < at + 16 → 0 ≡ numberAt (wholeLabel b at) n 8
   half-cut m = rw (label-cut b at m) (sym (number-none (replicate 16 0) n 8 (λ j k. getD-replicate {A = ℕ} 16 (n + j) 0 0 (omega arith))))
