@@ -1,5 +1,7 @@
 // A fed walker's state as a host has it: ten numbers in an array that it lends (include/brinethimble.h). Any ten numbers are a state.
 // What a call does most goes by the numbers alone, since making a state of them takes as long as reading a record.
+mod keys;
+
 ghost use mathlib.Core.Path.{_≡_};
 ghost use Prim.Native.Nat.{_+_, _≤_, _<_, _^_};
 ghost use mathlib.Core.List.{_++_};
@@ -7,8 +9,6 @@ ghost use mathlib.Core.Bool.{_&&_};
 ghost use lib.ListN.{length};
 ghost use lib.Dec.{leb};
 ghost use Rattle.parts.specs.Number.{numberAt};
-ghost use Rattle.labels.specs.Label.{keyAt};
-ghost use Rattle.lengths.specs.Length.{lengthAt};
 ghost use Rattle.fed_states.specs.State.{sought, goneOn, wholeLabel};
 ghost use Rattle.fed.specs.Parts.{having, restOf};
 ghost use Rattle.host_fed_states.specs.Places.{flag, bytesOf, eightPut, stateOf, statePlaces, placesOf, startOf, seekingOf, keyPlaces};
@@ -17,8 +17,9 @@ use fed::rest;
 use fed::searches;
 use fed_states::State;
 use host_numbers::mark;
+use keys::length_of;
+use keys::whole_key;
 use klv::Klv;
-use lengths::Field;
 use lengths::Length;
 use parts::u64_of;
 
@@ -198,41 +199,6 @@ fn may(live: bool, limit: usize, at: usize, have: usize, n: usize) -> bool
     n <= room - have
 }
 
-// The length that nine bytes begin with, by the numbers that hold them. The eight behind the first are one number, whose last bytes are
-// shifted out: twice by half of their bits, since all 64 go where no byte holds the value.
-fn length_of(ber: u64, ninth: u64) -> Length
-    ensures { λ r. ⌜ r ≡ lengthAt (bytesOf 8 ber ++ bytesOf 1 ninth) 0 ⌝ }
-{
-    let first = ber / 0x100_0000_0000_0000;
-    if first < 0x80 {
-        return Length::Is(Field {
-            value: first,
-            size: 1,
-            shortest: true,
-        });
-    }
-    if 0x88 < first {
-        return Length::None;
-    }
-    let n = first - 0x80;
-    let rest = ber % 0x100_0000_0000_0000 * 256 + ninth % 256;
-    let half = 32 - 4 * n;
-    let value = rest >> half >> half;
-    let size = (1 + n) as usize;
-    if n < 2 {
-        return Length::Is(Field {
-            value,
-            size,
-            shortest: 0x80 <= value,
-        });
-    }
-    Length::Is(Field {
-        value,
-        size,
-        shortest: 0x100_0000_0000_0000 <= rest,
-    })
-}
-
 // The value that is waited for, where all that is kept of its key has come and n bytes may come.
 pub fn waited(s: &[u64; 10], n: usize) -> Value
     ensures { λ r. ⌜ r ≡ waitedOf (stateOf (now (s .entry))) n ⌝ }
@@ -384,16 +350,6 @@ fn put_key(s: &mut [u64; 10], at: usize, since: usize, b: &[u8], w: usize)
     let ninth = u64_of(b[w + 24]);
     let have = b.len() - w;
     put_places(s, at + w, have, since, first, last, ber, ninth);
-}
-
-// Whether a key stands at a place, and n bytes from there on are all that is kept.
-fn whole_key(b: &[u8], w: usize, n: usize) -> bool
-    ensures { λ r. ⌜ r ≡ leb 25 n && keyAt (now (b .entry)) w ⌝ }
-{
-    if n < 25 {
-        return false;
-    }
-    search::key_at(b, w)
 }
 
 // Whether a place is one of n bytes, or their end, and all of them are within the limit.

@@ -1,10 +1,10 @@
--- `host_fed_states::whole_key` meets its contract: a law for each return.
+-- `host_fed_states::keys::whole_key` meets its contract: a law for each return.
 use mathlib.Core.Path.{_∙_}
 use native.Mathlib.Omega.{arith}
 use borrow.Author.Tests.{le-leb, lt-leb}
 use borrow.Author.Needs.{needs}
-use Rattle.host_fed_states.proofs.whole_key.Statement.{statement}
-use Rattle.host_fed_states.proofs.whole_key.Tie as tie
+use Rattle.host_fed_states.proofs.keys.whole_key.Statement.{statement}
+use Rattle.host_fed_states.proofs.keys.whole_key.Tie as tie
 
 returns : tie.Need-returns
 returns c = rw (lt-leb 25 (c .before .before .args .n) (omega (arith, c .if1 .taken)))

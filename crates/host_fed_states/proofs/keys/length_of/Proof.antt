@@ -1,10 +1,10 @@
--- `host_fed_states::length_of` meets its contract: a law for each return.
+-- `host_fed_states::keys::length_of` meets its contract: a law for each return.
 use Prim.Native.Nat.{_≤_, _<_, _^_, _/_}
 use native.Mathlib.Omega.{arith}
 use Rattle.host_fed_states.proofs.Lengths.{length-short, length-none, length-few, length-more}
 use borrow.Author.Needs.{needs}
-use Rattle.host_fed_states.proofs.length_of.Statement.{statement}
-use Rattle.host_fed_states.proofs.length_of.Tie as tie
+use Rattle.host_fed_states.proofs.keys.length_of.Statement.{statement}
+use Rattle.host_fed_states.proofs.keys.length_of.Tie as tie
 
 ber-fits : (c : tie.Start) → c .args .ber < 2 ^ 64
 ber-fits c = search needs
