@@ -22,7 +22,7 @@ high : (c : tie.Else2) → c .before .before .args .ber / 2 ^ 56 ≤ 0x88
 high c = omega (arith, c .if2 .left)
 
 returns-3 : tie.Need-returns-3
-returns-3 c = length-few _ _ (ber-fits (c .before .before .before)) (low (c .before .before)) (high (c .before)) (c .if3 .taken)
+returns-3 c = length-few _ _ (ber-fits (c .before .before .before)) (low (c .before .before)) (high (c .before)) (omega (arith, c .if3 .taken))
 
 returns-4 : tie.Need-returns-4
 returns-4 c = length-more _ _ (ber-fits (c .before .before .before)) (low (c .before .before)) (high (c .before)) (omega (arith, c .if3 .left))
