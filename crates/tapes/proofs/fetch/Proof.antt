@@ -1,11 +1,11 @@
--- `takediff::fetch` is safe: what is asked for lies in the room.
+-- `tapes::fetch` is safe: what is asked for lies in the room.
 use mathlib.Core.Path.{sym}
 use native.Mathlib.Omega.{arith}
 use lib.Seq.{length-take-le}
 use denote.Ref.{now}
 use borrow.Author.Needs.{needs}
-use Rattle.takediff.proofs.fetch.Statement.{statement}
-use Rattle.takediff.proofs.fetch.Tie as tie
+use Rattle.tapes.proofs.fetch.Statement.{statement}
+use Rattle.tapes.proofs.fetch.Tie as tie
 
 slice-aggregate-pread : tie.Need-slice-aggregate-pread
 slice-aggregate-pread c = sym (length-take-le (c .before .before .args .n) (now (c .before .before .args .room)) (c .before .before .pre))

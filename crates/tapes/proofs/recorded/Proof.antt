@@ -1,7 +1,7 @@
--- `takediff::recorded` meets its contract: a frame that is over-long has no values.
+-- `tapes::recorded` meets its contract: a frame that is over-long has no values.
 use borrow.Author.Needs.{needs}
-use Rattle.takediff.proofs.recorded.Statement.{statement}
-use Rattle.takediff.proofs.recorded.Tie as tie
+use Rattle.tapes.proofs.recorded.Statement.{statement}
+use Rattle.tapes.proofs.recorded.Tie as tie
 
 returns : tie.Need-returns
 returns c = rw (c .if1 .taken)
