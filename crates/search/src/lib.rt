@@ -101,7 +101,7 @@ fn pass(s: &[u8], at: usize) -> usize
 }
 
 // The first of 16 places where a key's start stands, else the place after them. The count is fixed, so that the compiler
-// lays the places out one after the other: a key that is near is found before a block would be tested.
+// lays the places out one after the other.
 fn near(s: &[u8], at: usize) -> usize
     requires { ⌜ at + 19 ≤ length (now s) ⌝ }
     ensures { λ r. ⌜ (r ≤ at + 16) × Passes (now (s .entry)) at r × (r < at + 16 → keyAt (now (s .entry)) r ≡ true) ⌝ }
@@ -116,8 +116,26 @@ fn near(s: &[u8], at: usize) -> usize
     at + k
 }
 
-// The search in the 16 places that are near, then in blocks, and place by place from the 16 that have a key's start. The last
-// block begins as far back as it must to be whole.
+// The search from where a key's start is near.
+fn soon(s: &[u8], end: usize, from: usize) -> usize
+    requires { ⌜ end ≤ length (now s) ⌝ }
+    ensures { λ r. ⌜ r ≡ searchFrom (now (s .entry)) end from ⌝ }
+{
+    if end < 19 {
+        return scan(s, end, from);
+    }
+    if end - 19 < from {
+        return scan(s, end, from);
+    }
+    let first = near(s, from);
+    if first < from + 16 {
+        return first;
+    }
+    scan(s, end, first)
+}
+
+// The search in blocks, and place by place from the 16 that have a key's start. The last block begins as far back as it must to
+// be whole.
 fn seek(s: &[u8], end: usize, from: usize) -> usize
     requires { ⌜ end ≤ length (now s) ⌝ }
     ensures { λ r. ⌜ r ≡ searchFrom (now (s .entry)) end from ⌝ }
@@ -129,16 +147,12 @@ fn seek(s: &[u8], end: usize, from: usize) -> usize
     if last < from {
         return scan(s, end, from);
     }
-    let first = near(s, from);
-    if first < from + 16 {
-        return first;
-    }
-    let mut q = first;
+    let mut q = from;
     while q < last + 64 {
         let at = lesser(q, last);
         let r = pass(s, at);
         if r < at + 64 {
-            return scan(s, end, q + saturating_sub(r, q));
+            return soon(s, end, q + saturating_sub(r, q));
         }
         q = r;
     }

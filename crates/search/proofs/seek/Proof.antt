@@ -1,25 +1,25 @@
 -- `search::seek` meets its contract. The loop's invariant: the search from where the blocks lead is the search that was asked for.
 use Prim.Native.Nat.{_+_, _-_, _≤_, _<_}
-use mathlib.Core.Path.{_≡_, sym, _∙_}
+use mathlib.Core.Path.{_≡_, refl, _∙_}
 use mathlib.Core.Logic.{by-cases}
 use native.Mathlib.Omega.{arith}
 use native.Mathlib.Decide.{decLt}
 use denote.Ref.{now}
 use Rattle.search.specs.Search.{keyBefore, searchFrom}
-use Rattle.search.proofs.Laws.{key-here, key-none}
+use Rattle.search.proofs.Laws.{key-none}
 use Rattle.search.proofs.Found.{search-between}
 use borrow.Author.Needs.{needs}
 use Rattle.search.proofs.seek.Statement.{statement}
 use Rattle.search.proofs.seek.Tie as tie
 
 abbrev Inv-loop : tie.InvT-loop
-Inv-loop s end from last first q₀ q = (from ≤ q) × (q ≤ last + 64) × (searchFrom s end q ≡ searchFrom s end from)
+Inv-loop s end from last q₀ q = (from ≤ q) × (q ≤ last + 64) × (searchFrom s end q ≡ searchFrom s end from)
 
 abbrev μ-loop : tie.MeasureT-loop
-μ-loop s end from last first q₀ q = last + 64 - q
+μ-loop s end from last q₀ q = last + 64 - q
 
 abbrev start-of : tie.At-loop Inv-loop μ-loop → tie.Start Inv-loop μ-loop
-start-of w = w .before .before .before .before .before .before
+start-of w = w .before .before .before .before
 
 -- where the search is after a block, from places that were passed
 passed : (c : tie.After-pass Inv-loop μ-loop)
@@ -32,16 +32,16 @@ passed c =
     let i = w .loop .inv in
     p .2 e (omega (arith, p .1)) ∙ search-between (keyBefore (now (start-of w .args .s)) e) e (start-of w .args .from) (c .before .lesser .result) (w .loop .q) (omega (arith, i .0)) (omega arith) (omega (arith, i .1)) (i .2)
 
-returns-4 : tie.Need-returns-4 Inv-loop μ-loop
-returns-4 c =
+returns-3 : tie.Need-returns-3 Inv-loop μ-loop
+returns-3 c =
     let w = c .before .before .before .before .before .before in
     let m = c .before .saturating-sub .ensures in
-    c .scan3 .ensures
+    c .soon .ensures
     ∙ by-cases (decLt (c .before .before .before .pass .result) (w .loop .q))
     (λ h. let e : w .loop .q + c .before .saturating-sub .result ≡ w .loop .q = omega arith in rw e (w .loop .inv .2))
     (λ h. let e : w .loop .q + c .before .saturating-sub .result ≡ c .before .before .before .pass .result = omega arith in rw e (passed (c .before .before .before)))
 
-bounds : (c : tie.Else4 Inv-loop μ-loop) → (c .before .pass .result ≡ c .before .before .lesser .result + 64) × (c .before .before .before .before .loop .q < c .before .pass .result)
+bounds : (c : tie.Else3 Inv-loop μ-loop) → (c .before .pass .result ≡ c .before .before .lesser .result + 64) × (c .before .before .before .before .loop .q < c .before .pass .result)
 bounds c =
     let p = c .before .pass .ensures in
     let l = c .before .before .lesser .ensures in
@@ -57,10 +57,7 @@ seek-spec =
     (λ c. search needs)
     (λ c κs. search needs)
     (λ c. search needs)
-    (λ c κs. search needs)
-    (λ c. search needs)
-    (λ c. key-here _ _ _ (omega arith) (c .before .near .ensures .2 (omega arith)) ∙ c .before .near .ensures .1 _ (omega arith))
-    (λ c. (omega (arith, c .before .near .ensures .0), omega (arith, c .before .near .ensures .0), c .before .near .ensures .1 _ (omega (arith, c .before .near .ensures .0))))
+    (λ c. (omega arith, omega arith, refl))
     (λ c. search needs)
     (λ c κs. search needs)
     (λ c κs. omega (arith, c .lesser .ensures))
@@ -68,7 +65,7 @@ seek-spec =
     (λ c κs. search needs)
     (λ c. omega (arith, c .saturating-sub .ensures, c .before .before .pass .ensures .1, c .before .before .before .before .before .loop .inv .1))
     (λ c κs. search needs)
-    returns-4
+    returns-3
     (λ c. omega (arith, bounds c .0, bounds c .1, c .before .before .lesser .ensures))
     (λ c. (omega (arith, bounds c .1, c .before .before .before .before .loop .inv .0), omega (arith, bounds c .0, c .before .before .lesser .ensures), passed (c .before)))
     (λ c. key-none _ _ _ (omega (arith, c .before .loop .inv .1)) (omega arith) ∙ c .before .loop .inv .2))
