@@ -66,8 +66,8 @@ fn in_set(s: &[u8]) -> Block
     }
 }
 
-// The block that a run's item gives, where it is a lens unit set. Of two labels that are the same it asks `agree_but`, which the compiler
-// takes in where one is constant.
+// The block that a run's item gives, where it is a lens unit set. The byte at 7 doesn't count, as in `same_label`; `agree_but` itself is
+// called, since the compiler takes it in where a label is constant.
 fn in_run_item(s: &[u8], k: Klv) -> Block
     requires { ⌜ k .value + k .len ≤ length (now s) ⌝ }
     ensures { λ r. ⌜ told r ≡ inRunItem (now (s .entry)) (item 16 (now (s .entry)) k) ⌝ }

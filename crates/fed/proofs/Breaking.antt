@@ -1,7 +1,7 @@
 -- Where a search starts before a key's start has come whole. Assumes nothing.
 use Prim.Native.Nat.{ℕ, suc, _+_, _-_, _≤_, _<_}
-use mathlib.Core.Path.{_≡_, refl, sym, ap, _∙_}
-use mathlib.Core.Bool.{Bool, true, false, and-false}
+use mathlib.Core.Path.{_≡_, refl, sym, _∙_}
+use mathlib.Core.Bool.{Bool, true, false}
 use mathlib.Core.List.{List, [], _∷_}
 use mathlib.Core.Logic.{by-cases}
 use native.Mathlib.Decide.{decLt}
@@ -12,7 +12,7 @@ use lib.Seq.{drop-cons}
 use Rattle.fed_states.specs.declared.State.{State}
 use Rattle.fed_states.specs.State.{sought}
 use Rattle.fed_states.proofs.Laws.{sound-within}
-use Rattle.fed_bytes.specs.Feed.{eats, feedOf}
+use Rattle.fed_bytes.specs.Feed.{eats}
 use Rattle.fed_bytes.proofs.Laws.{eats-nothing, feed-eats}
 use Rattle.fed.specs.Parts.{startsOf, breaksOf, searchesOf}
 use Rattle.fed.proofs.Reaching.{Searching}

@@ -1,9 +1,9 @@
 -- Laws of the definitions of `specs/`, and the cases of a byte. Assumes nothing.
-use Prim.Native.Nat.{ℕ, suc, _+_, _-_, _≤_, _<_}
-use mathlib.Core.Path.{_≡_, refl, sym, ap, _∙_}
-use mathlib.Core.List.{List, [], _∷_}
+use Prim.Native.Nat.{ℕ, _+_, _-_, _≤_, _<_}
+use mathlib.Core.Path.{_≡_, refl, ap, _∙_}
+use mathlib.Core.List.{List, _∷_}
 use mathlib.Core.Bool.{Bool, true, false, cond}
-use mathlib.Core.Logic.{by-cases, _⊎_, inl, inr, ⊎-elim}
+use mathlib.Core.Logic.{by-cases, _⊎_, inl, inr}
 use native.Mathlib.Numerals.{add-one}
 use native.Mathlib.Omega.{arith}
 use native.Mathlib.Decide.{decLt}
@@ -16,12 +16,11 @@ use Rattle.labels.specs.Label.{keyStart}
 use Rattle.lengths.specs.declared.Field.{Field}
 use Rattle.lengths.specs.declared.Length.{Length}
 use Rattle.lengths.specs.declared.Length.the-variants.{Is, Cut, None}
-use Rattle.klv.specs.declared.Klv.{Klv}
-use Rattle.klv.specs.Item.{klv, past, Item}
+use Rattle.klv.specs.Item.{klv, Item}
 use Rattle.walk.specs.Rules.{byValue, byLength}
 use Rattle.fed_states.specs.declared.State.{State}
 use Rattle.fed_states.specs.State.{sought, goneOn, lengthOf, soundOf}
-use Rattle.fed_states.proofs.Laws.{Come, come}
+use Rattle.fed_states.proofs.Laws.{come}
 use Rattle.steps.specs.Passed.{Passed}
 use Rattle.fed_bytes.specs.Eat.{seekOf, labelled, behind, toldOf, turned, turnOf, eatOf}
 use Rattle.fed_bytes.specs.Feed.{Taken, took, after, upTo, eats, feedOf}

@@ -6,7 +6,7 @@ use mathlib.Core.Bool.{true}
 use mathlib.Core.Logic.{by-cases}
 use native.Mathlib.Omega.{arith}
 use native.Mathlib.Decide.{decLt}
-use lib.ListN.{length, getD, set, take, drop, length-set, length-take, length-drop, List·getD-append}
+use lib.ListN.{length, getD, set, take, drop, length-set, length-take, List·getD-append}
 use lib.Seq.{getD-set-same, getD-set-other, getD-take, getD-drop, ext-getD}
 use Rattle.steps.specs.Told.{found, nothing}
 use Rattle.parts.proofs.Parts.{part-length, part-byte}
@@ -22,10 +22,9 @@ use Rattle.klv.specs.Item.{klv, Item}
 use Rattle.fed_states.specs.declared.State.{State}
 use Rattle.fed_states.specs.State.{noLabel, sought, goneOn, lengthOf}
 use Rattle.steps.specs.Passed.{Passed}
-use Rattle.fed_bytes.specs.Eat.{turned, turnOf}
 use Rattle.fed_bytes.specs.Feed.{took, eats}
 use Rattle.fed_bytes.specs.Fill.{labelWith, berWith, filled}
-use Rattle.fed_bytes.proofs.Laws.{turn-cut, turn-none, turn-record, turn-wait, turn-late, takes-none, takes-nothing, takes-found, eats-bytewise}
+use Rattle.fed_bytes.proofs.Laws.{turn-cut, turn-none, turn-record, turn-wait, turn-late, takes-nothing, takes-found, eats-bytewise}
 use Rattle.fed_bytes.proofs.Keys.{key-bytes}
 use Rattle.fed_bytes.proofs.Moved.{length-moved}
 use Rattle.fed_bytes.proofs.Prefixes.{cut-before}

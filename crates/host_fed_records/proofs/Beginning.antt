@@ -1,25 +1,23 @@
 -- How a call begins: a piece is refused, a search starts, or a record comes before one. Assumes nothing.
-use Prim.Native.Nat.{ℕ, _+_, _-_, _*_, _≤_, _<_}
+use Prim.Native.Nat.{ℕ, _+_, _-_, _*_, _<_}
 use mathlib.Core.Path.{_≡_, refl, sym, ap, _∙_}
-use mathlib.Core.Bool.{true}
 use mathlib.Core.List.{List}
 use mathlib.Core.Logic.{by-cases}
 use native.Mathlib.Decide.{decLt}
 use native.Mathlib.Omega.{arith}
-use lib.ListN.{length, getD, drop}
+use lib.ListN.{length, getD}
 use lib.Seq.{sets}
 use Rattle.steps.specs.Told.{ToldAt, found, nothing, refused, number}
 use Rattle.steps.specs.Passed.{Passed}
 use Rattle.klv.specs.Item.{Item}
 use Rattle.fed_states.specs.declared.State.{State}
-use Rattle.fed_states.specs.State.{sought, goneOn, soundOf}
+use Rattle.fed_states.specs.State.{sought}
 use Rattle.fed_states.proofs.Laws.{sound-within}
-use Rattle.fed_bytes.specs.Feed.{Taken, took, eats, feedOf}
+use Rattle.fed_bytes.specs.Feed.{Taken, took, feedOf}
 use Rattle.fed_bytes.proofs.Laws.{takes-none, takes-same}
 use Rattle.fed.proofs.Starting.{starts-zero, starts-eats}
 use Rattle.fed.proofs.Reaching.{Searching}
 use Rattle.fed_pieces.specs.Pieces.{refusalOf, behind, feedOn, Fits}
-use Rattle.fed_pieces.proofs.Going.{Rests}
 use Rattle.fed_pieces.proofs.Laws.{feeds, number-refusal, refusal-none, taken-fits}
 use Rattle.fed_pieces.proofs.Told.{Further, further}
 use Rattle.host_records.specs.Batch.{placesEach, recordPut}

@@ -1,17 +1,17 @@
 -- What is kept of bytes that come where a search starts, as places. Assumes nothing.
 use Prim.Native.Nat.{ℕ, _+_, _-_, _≤_, _<_}
-use mathlib.Core.Path.{_≡_, refl, sym, ap, _∙_}
+use mathlib.Core.Path.{_≡_, sym, ap, _∙_}
 use mathlib.Core.Bool.{true, false, _&&_}
 use mathlib.Core.List.{List}
 use native.Mathlib.Omega.{arith}
 use borrow.Author.Tests.{le-leb, lt-leb, leb-true}
 use lib.Dec.{leb}
-use lib.ListN.{length, getD, drop}
+use lib.ListN.{length, getD}
 use lib.Seq.{getD-drop, getD-take}
 use Rattle.parts.specs.Number.{numberAt}
 use Rattle.parts.proofs.Numbers.{number-moved}
 use Rattle.labels.specs.Label.{keyAt, labelAt}
-use Rattle.search.specs.Search.{keyBegins, searchFrom, waitFrom}
+use Rattle.search.specs.Search.{keyBegins, waitFrom}
 use Rattle.search.proofs.Laws.{search-end, key-none, key-here}
 use Rattle.search.proofs.Found.{search-most}
 use Rattle.fed_states.specs.declared.State.{State}

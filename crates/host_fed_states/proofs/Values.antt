@@ -17,7 +17,7 @@ use Rattle.lengths.specs.declared.Length.the-variants.{Is, Cut, None}
 use Rattle.lengths.specs.Length.{lengthAt}
 use Rattle.klv.specs.Item.{klv}
 use Rattle.fed_states.specs.declared.State.{State}
-use Rattle.fed_states.specs.State.{goneOn, lengthOf, soundOf}
+use Rattle.fed_states.specs.State.{goneOn, lengthOf}
 use Rattle.fed_states.proofs.Laws.{come, and-left, and-right, sound-within}
 use Rattle.fed_bytes.specs.Feed.{took, upTo, eats, feedOf}
 use Rattle.fed_bytes.specs.Fill.{filled}

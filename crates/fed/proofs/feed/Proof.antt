@@ -1,6 +1,6 @@
 -- `fed::feed` meets its contract: what was reached, or what the search from there on comes to.
-use Prim.Native.Nat.{ℕ, _+_, _-_, _≤_, _<_}
-use mathlib.Core.Path.{_≡_, sym, _∙_}
+use Prim.Native.Nat.{_-_}
+use mathlib.Core.Path.{sym, _∙_}
 use native.Mathlib.Omega.{arith}
 use denote.Ref.{now}
 use Rattle.fed.proofs.Reaching.{Searching, Reached, reached, resumed-end, resumed-told}

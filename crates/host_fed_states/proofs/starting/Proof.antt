@@ -1,8 +1,7 @@
 -- `host_fed_states::starting` meets its contract: a search starts where `searches` says, or none does.
-use Prim.Native.Nat.{_+_, _≤_, _<_, _^_}
+use Prim.Native.Nat.{_+_, _<_, _^_}
 use mathlib.Core.Path.{_≡_}
 use native.Mathlib.Omega.{arith}
-use lib.ListN.{length, getD}
 use denote.Ref.{now}
 use Rattle.fed.specs.Parts.{searchesOf}
 use Rattle.fed.proofs.Reaching.{Searching}

@@ -1,6 +1,5 @@
 -- `tapes::fetch` is safe: what is asked for lies in the room.
 use mathlib.Core.Path.{sym}
-use native.Mathlib.Omega.{arith}
 use lib.Seq.{length-take-le}
 use denote.Ref.{now}
 use borrow.Author.Needs.{needs}

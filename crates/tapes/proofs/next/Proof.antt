@@ -1,5 +1,4 @@
 -- `tapes::next` finds what each stage has.
-use mathlib.Core.Path.{sym}
 use mathlib.Core.List.{[]}
 use Rattle.tapes.specs.Tapes.{foundBy}
 use borrow.Author.Needs.{needs}
