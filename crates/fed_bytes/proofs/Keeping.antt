@@ -111,7 +111,7 @@ module _ (st : State) (here : ℕ) (l : List ℕ) (n : ℕ) where
             ∙ cut-back (drop (w + 16) l) (4 + j - 16) (length (drop (w + 16) l)) (omega arith) (ap (λ (x : List ℕ). lengthAt x 0) (take-length (drop (w + 16) l)) ∙ is-cut)
 
     -- a value that is missing
-    keeps-value : (f : Field) → lengthAt l (w + 16) ≡ Is f → length l - (w + 16 + f .size) < f .value → here + w + 16 + f .size + f .value ≤ st .limit → seeking st here l n w ≡ keeps w
+    pub keeps-value : (f : Field) → lengthAt l (w + 16) ≡ Is f → length l - (w + 16 + f .size) < f .value → here + w + 16 + f .size + f .value ≤ st .limit → seeking st here l n w ≡ keeps w
     keeps-value f e m v =
         let t = taken l (w + 16) f e in
         keeps-key w w (omega arith) here-key key (omega arith)

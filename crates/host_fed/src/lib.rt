@@ -9,8 +9,8 @@ ghost use Rattle.steps.specs.Told.{number};
 ghost use Rattle.fed_states.specs.State.{opened, sought};
 ghost use Rattle.fed_states.specs.Close.{closeOf};
 ghost use Rattle.fed_bytes.specs.Feed.{eats, feedOf};
-ghost use Rattle.host_fed_states.specs.Places.{stateOf, statePlaces};
-ghost use Rattle.host_fed_states.proofs.Values.{Tells};
+ghost use Rattle.host_fed_states.specs.Places.{isMarked, stateOf, statePlaces};
+ghost use Rattle.host_fed_states.proofs.Values.{Tells, Begins};
 ghost use Rattle.host_fed.specs.Places.{stateAfter, labelAfter, feedPlaces, Answers, closed, closePlaces};
 ghost use Rattle.host_fed.specs.Begun.{Begun};
 use fed::Answer;
@@ -21,11 +21,15 @@ use fed_states::label_at;
 use fed_states::open_end;
 use fed_states::open_limit;
 use host_fed_states::Value;
+use host_fed_states::begun;
+use host_fed_states::eight_of;
 use host_fed_states::limit_of;
+use host_fed_states::marked;
 use host_fed_states::put_behind;
 use host_fed_states::put_done;
 use host_fed_states::put_eight;
 use host_fed_states::put_having;
+use host_fed_states::put_places;
 use host_fed_states::put_rest;
 use host_fed_states::put_state;
 use host_fed_states::starting;
@@ -33,6 +37,7 @@ use host_fed_states::state_of;
 use host_fed_states::waited;
 use host_numbers::mark;
 use parts::saturating_sub;
+use parts::u64_of;
 use walk::Cursor;
 use walk::Step;
 
@@ -125,6 +130,7 @@ fn resume(state: &mut [u64; 10], piece: &[u8], label: &mut [u8; 16], out: &mut [
 // Takes a piece where a value is waited for: all of it, or up to the value's end. The places are put between the label's halves: the
 // compiler makes one store of eight bytes, and none of sixteen in a row.
 fn within(v: Value, state: &mut [u64; 10], piece: &[u8], label: &mut [u8; 16], out: &mut [u64; 8])
+    requires { ⌜ isMarked (now state) ≡ true ⌝ }
     requires { ⌜ Tells (stateOf (now state)) (length (now piece)) v ⌝ }
     ensures { λ r. ⌜ Answers 0 (feedOf (stateOf (now (state .entry))) (now (piece .entry))) (now (state .entry)) (now (label .entry)) (now (out .entry)) (now (state .exit)) (now (label .exit)) (now (out .exit)) ⌝ }
 {
@@ -154,22 +160,20 @@ fn within(v: Value, state: &mut [u64; 10], piece: &[u8], label: &mut [u8; 16], o
     put_done(state, v.next);
 }
 
-// The first part of a call. Most end, or come to a search, without a state being made of the numbers.
+// The first part of a call. Many come to a search without a state being made of the numbers, where the flags are 0 or 1; behind it
+// they are.
 fn begin(state: &mut [u64; 10], piece: &[u8], label: &mut [u8; 16], out: &mut [u64; 8]) -> Start
     ensures { λ r. ⌜ Begun (stateOf (now (state .entry))) (now (piece .entry)) r (now (state .entry)) (now (label .entry)) (now (out .entry)) (now (state .exit)) (now (label .exit)) (now (out .exit)) ⌝ }
 {
-    let v = waited(state, piece.len());
-    if v.due != 0 {
-        within(v, state, piece, label, out);
-        return ended(0);
-    }
-    let b = starting(state, piece);
-    if b.taken < piece.len() {
-        return Start {
-            at: b.at,
-            taken: b.taken,
-            status: SEARCHES,
-        };
+    if marked(state) {
+        let b = starting(state, piece);
+        if b.taken < piece.len() {
+            return Start {
+                at: b.at,
+                taken: b.taken,
+                status: SEARCHES,
+            };
+        }
     }
     resume(state, piece, label, out)
 }
@@ -184,6 +188,7 @@ fn walk(
     label: &mut [u8; 16],
     out: &mut [u64; 8],
 )
+    requires { ⌜ isMarked (now state) ≡ true ⌝ }
     requires { ⌜ i ≤ length (now piece) ⌝ }
     requires { ⌜ here + (length (now piece) - i) ≤ stateOf (now state) .limit ⌝ }
     ensures { λ r. ⌜ ((x : List ℕ) → Answers 0 (eats (sought (stateOf (now (state .entry))) here 0) (drop i (now (piece .entry))) i) x (now (label .entry)) (now (out .entry)) (now (state .exit)) (now (label .exit)) (now (out .exit))) ⌝ }
@@ -222,6 +227,80 @@ fn walk(
     }
 }
 
+// Takes any piece.
+fn take(state: &mut [u64; 10], piece: &[u8], label: &mut [u8; 16], out: &mut [u64; 8]) -> u32
+    ensures { λ r. ⌜ Answers r (feedOf (stateOf (now (state .entry))) (now (piece .entry))) (now (state .entry)) (now (label .entry)) (now (out .entry)) (now (state .exit)) (now (label .exit)) (now (out .exit)) ⌝ }
+{
+    let b = begin(state, piece, label, out);
+    if b.status != SEARCHES {
+        return b.status;
+    }
+    walk(b.at, piece, b.taken, state, label, out);
+    0
+}
+
+// Takes a piece that starts with a key: all of it, or up to its value's end.
+fn from_key(v: Value, state: &mut [u64; 10], piece: &[u8], label: &mut [u8; 16], out: &mut [u64; 8])
+    requires { ⌜ isMarked (now state) ≡ true ⌝ }
+    requires { ⌜ Begins (stateOf (now state)) (now piece) v ⌝ }
+    ensures { λ r. ⌜ Answers 0 (feedOf (stateOf (now (state .entry))) (now (piece .entry))) (now (state .entry)) (now (label .entry)) (now (out .entry)) (now (state .exit)) (now (label .exit)) (now (out .exit)) ⌝ }
+{
+    let since = state[5] as usize;
+    let n = piece.len();
+    let k = v.klv;
+    let first = eight_of(piece, 0);
+    let last = eight_of(piece, 8);
+    if n < v.due {
+        let lead = u64_of(piece[16]);
+        let eight = eight_of(piece, 17);
+        put_places(state, k.at, n, since, first, last, lead, eight);
+        *out = [0, n as u64, 0, 0, 0, 0, 0, 0];
+        return;
+    }
+    let shortest = mark(k.shortest);
+    let passed = saturating_sub(k.at, since);
+    let key = label_at(piece, 0);
+    put_places(state, v.next, 0, v.next, first, last, 0, 0);
+    *label = key;
+    *out = [
+        1,
+        v.due as u64,
+        k.at as u64,
+        k.value as u64,
+        k.len as u64,
+        k.size as u64,
+        shortest,
+        passed as u64,
+    ];
+}
+
+// Takes a piece where no key has come whole. Most start with one. What is called from more than one place, as `take` is, the compiler
+// does not take in; so what most pieces come to stays short.
+fn before_key(state: &mut [u64; 10], piece: &[u8], label: &mut [u8; 16], out: &mut [u64; 8]) -> u32
+    requires { ⌜ isMarked (now state) ≡ true ⌝ }
+    ensures { λ r. ⌜ Answers r (feedOf (stateOf (now (state .entry))) (now (piece .entry))) (now (state .entry)) (now (label .entry)) (now (out .entry)) (now (state .exit)) (now (label .exit)) (now (out .exit)) ⌝ }
+{
+    let v = begun(state, piece);
+    if v.due == 0 {
+        return take(state, piece, label, out);
+    }
+    from_key(v, state, piece, label, out);
+    0
+}
+
+// Takes a piece behind a key. Most are of its value.
+fn behind_key(state: &mut [u64; 10], piece: &[u8], label: &mut [u8; 16], out: &mut [u64; 8]) -> u32
+    requires { ⌜ isMarked (now state) ≡ true ⌝ }
+    ensures { λ r. ⌜ Answers r (feedOf (stateOf (now (state .entry))) (now (piece .entry))) (now (state .entry)) (now (label .entry)) (now (out .entry)) (now (state .exit)) (now (label .exit)) (now (out .exit)) ⌝ }
+{
+    let v = waited(state, piece.len());
+    if v.due == 0 {
+        return take(state, piece, label, out);
+    }
+    within(v, state, piece, label, out);
+    0
+}
+
 // Takes a piece up to the byte that completes a record, else all of it.
 #[no_mangle]
 pub extern "C" fn brine_feed(
@@ -235,12 +314,13 @@ pub extern "C" fn brine_feed(
     ensures { λ r. ⌜ now (label .exit) ≡ labelAfter (now (label .entry)) (feedOf (stateOf (now (state .entry))) (now (piece .entry))) ⌝ }
     ensures { λ r. ⌜ now (out .exit) ≡ feedPlaces (now (out .entry)) (feedOf (stateOf (now (state .entry))) (now (piece .entry))) ⌝ }
 {
-    let b = begin(state, piece, label, out);
-    if b.status != SEARCHES {
-        return b.status;
+    if !marked(state) {
+        return take(state, piece, label, out);
     }
-    walk(b.at, piece, b.taken, state, label, out);
-    0
+    if state[4] < 25 {
+        return before_key(state, piece, label, out);
+    }
+    behind_key(state, piece, label, out)
 }
 
 // Closes the walk.

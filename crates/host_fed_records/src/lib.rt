@@ -1,5 +1,6 @@
 // What a host links of the fed walker's lists: as many records of a piece as there is lent room for (include/brinethimble.h).
 ghost use mathlib.Core.Path.{_≡_};
+ghost use mathlib.Core.Bool.{true};
 ghost use Prim.Native.Nat.{_+_, _-_, _*_, _^_, _≤_, _<_};
 ghost use lib.ListN.{length};
 ghost use lib.Seq.{sets};
@@ -9,7 +10,7 @@ ghost use Rattle.fed_bytes.specs.Feed.{took, feedOf};
 ghost use Rattle.fed_bytes.proofs.Walking.{onward};
 ghost use Rattle.fed_pieces.specs.Pieces.{recordsOf, endOf, Fits};
 ghost use Rattle.host_records.specs.Batch.{placesEach, recordPut, recordsPut};
-ghost use Rattle.host_fed_states.specs.Places.{stateOf, seekingOf};
+ghost use Rattle.host_fed_states.specs.Places.{isMarked, stateOf, seekingOf};
 ghost use Rattle.host_fed_states.proofs.Values.{Tells};
 ghost use Rattle.host_fed_records.specs.Many.{room, labelsPut, manyState, manyPlaces, Ended, Roomless};
 ghost use Rattle.host_fed_records.specs.Begun.{Begun};
@@ -18,6 +19,7 @@ use fed::reach;
 use fed_pieces::refusal;
 use host_fed_states::Value;
 use host_fed_states::limit_of;
+use host_fed_states::marked;
 use host_fed_states::put_behind;
 use host_fed_states::put_done;
 use host_fed_states::put_eight;
@@ -196,6 +198,7 @@ fn within(
     most: usize,
     out: &mut [u64; 2],
 ) -> Start
+    requires { ⌜ isMarked (now state) ≡ true ⌝ }
     requires { ⌜ Tells (stateOf (now state)) (length (now piece)) v ⌝ }
     requires { ⌜ 0 < most ⌝ }
     requires { ⌜ placesEach * most ≤ length (now records) ⌝ }
@@ -230,7 +233,8 @@ fn within(
     ended(0)
 }
 
-// The first part of a call. Most end, or come to a search, without a state being made of the numbers.
+// The first part of a call. Most end, or come to a search, without a state being made of the numbers, where the flags are 0 or 1;
+// behind it they are.
 fn begin(
     state: &mut [u64; 10],
     piece: &[u8],
@@ -244,20 +248,22 @@ fn begin(
     requires { ⌜ 16 * most ≤ length (now labels) ⌝ }
     ensures { λ r. ⌜ Begun (stateOf (now (state .entry))) (now (piece .entry)) most r (now (state .entry)) (now (records .entry)) (now (labels .entry)) (now (out .entry)) (now (state .exit)) (now (records .exit)) (now (labels .exit)) (now (out .exit)) ⌝ }
 {
-    let v = waited(state, piece.len());
-    if v.due != 0 {
-        return within(v, state, piece, records, labels, most, out);
-    }
-    let b = starting(state, piece);
-    if b.taken < piece.len() {
-        let since = state[5] as usize;
-        return Start {
-            at: b.at,
-            since,
-            taken: b.taken,
-            count: 0,
-            status: SEARCHES,
-        };
+    if marked(state) {
+        let v = waited(state, piece.len());
+        if v.due != 0 {
+            return within(v, state, piece, records, labels, most, out);
+        }
+        let b = starting(state, piece);
+        if b.taken < piece.len() {
+            let since = state[5] as usize;
+            return Start {
+                at: b.at,
+                since,
+                taken: b.taken,
+                count: 0,
+                status: SEARCHES,
+            };
+        }
     }
     resume(state, piece, records, labels, most, out)
 }
@@ -299,6 +305,7 @@ fn walk(
     state: &mut [u64; 10],
     out: &mut [u64; 2],
 )
+    requires { ⌜ isMarked (now state) ≡ true ⌝ }
     requires { ⌜ Fits (now piece) (stateOf (now state) .limit) (took (seekingOf (stateOf (now state)) here from) i) ⌝ }
     requires { ⌜ i < length (now piece) ⌝ }
     requires { ⌜ n < most ⌝ }

@@ -4,7 +4,11 @@ use mathlib.Core.Path.{_≡_, refl, sym, ap, _∙_}
 use mathlib.Core.List.{List, [], _∷_, _++_, append-nil, append-assoc}
 use native.Mathlib.Nat.{pow-suc, one-le-pow}
 use native.Mathlib.Omega.{arith}
-use borrow.Author.Tests.{le-leb, lt-leb}
+use mathlib.Core.Bool.{Bool, true, false, _&&_}
+use mathlib.Core.Logic.{by-cases}
+use native.Mathlib.Decide.{decLt}
+use borrow.Author.Tests.{le-leb, lt-leb, leb-true, eqb-true}
+use lib.Dec.{leb}
 use lib.ListN.{length, getD, set, take, drop, replicate, getD-replicate, length-append, drop-of-length-le}
 use lib.Arith.{mod-mul}
 use lib.Seq.{sets, sets-eq, set-comm, length-sets, length-take-le, take-at}
@@ -12,9 +16,11 @@ use Rattle.parts.specs.Number.{numberAt}
 use Rattle.parts.proofs.Numbers.{number-moved}
 use Rattle.parts.proofs.Parts.{part-byte}
 use Rattle.labels.specs.Label.{labelAt}
+use Rattle.fed_states.specs.declared.State.{State}
 use Rattle.fed_states.specs.State.{noLabel, noBer, wholeLabel}
-use Rattle.fed_states.proofs.Laws.{label-whole, label-cut}
-use Rattle.host_fed_states.specs.Places.{bytesOf, eightPut}
+use Rattle.fed_states.proofs.Laws.{and-left, and-right, label-whole, label-cut}
+use Rattle.host_numbers.specs.Numbers.{mark}
+use Rattle.host_fed_states.specs.Places.{flag, isMarked, bytesOf, eightPut, eightOf, statePlaces, placesIn}
 
 pub bytes-length : (n v : ℕ) → length (bytesOf n v) ≡ n
 unfolding bytesOf
@@ -43,6 +49,16 @@ module _ (n at : ℕ) (l : List ℕ) where
   unfolding eightPut
   eight-none h = rw (lt-leb _ _ h)
 
+-- and the number that they hold there
+module _ (b : List ℕ) (at : ℕ) where
+  pub eight-there : at + 8 ≤ length b → numberAt b at 8 ≡ eightOf b at
+  unfolding eightOf
+  eight-there h = rw (le-leb _ _ h)
+
+  pub eight-missing : length b < at + 8 → 0 ≡ eightOf b at
+  unfolding eightOf
+  eight-missing h = rw (lt-leb _ _ h)
+
 -- two numbers' bytes that fill a list are those, one behind the other
 pub two-fill : (a b l : List ℕ) → length a + length b ≡ length l → sets (sets l 0 a) (length a) b ≡ a ++ b
 two-fill a b l h =
@@ -67,22 +83,48 @@ front-filled l x y h =
     let e : 0 + length (bytesOf 8 x ++ bytesOf 8 y) ≡ 16 = omega arith in
     rw (label-filled (take 16 l) x y (length-take-le 16 l h)) (sym (rw e at (sets-eq (bytesOf 8 x ++ bytesOf 8 y) l 0 (omega arith))))
 
-pub ber-filled : (l : List ℕ) (x y : ℕ) → length l ≡ 9 → sets (eightPut x 0 l) 8 (bytesOf 1 y) ≡ bytesOf 8 x ++ bytesOf 1 y
+pub ber-filled : (l : List ℕ) (x y : ℕ) → length l ≡ 9 → eightPut y 1 (sets l 0 (bytesOf 1 x)) ≡ bytesOf 1 x ++ bytesOf 8 y
 ber-filled l x y h =
-    let a = bytes-length 8 x in
-    let b = bytes-length 1 y in
-    rw (eight-put x 0 l (omega arith)) (rw a at (two-fill (bytesOf 8 x) (bytesOf 1 y) l (omega arith)))
+    let a = bytes-length 1 x in
+    let b = bytes-length 8 y in
+    let n = length-sets l 0 (bytesOf 1 x) in
+    rw (eight-put y 1 (sets l 0 (bytesOf 1 x)) (omega arith)) (rw a at (two-fill (bytesOf 1 x) (bytesOf 8 y) l (omega arith)))
 
-pub ber-length : (x y : ℕ) → length (bytesOf 8 x ++ bytesOf 1 y) ≡ 9
-ber-length x y = length-append (bytesOf 8 x) (bytesOf 1 y) ∙ rw (bytes-length 8 x, bytes-length 1 y) refl
+pub ber-length : (x y : ℕ) → length (bytesOf 1 x ++ bytesOf 8 y) ≡ 9
+ber-length x y = length-append (bytesOf 1 x) (bytesOf 8 y) ∙ rw (bytes-length 1 x, bytes-length 8 y) refl
 
 pub one-byte : (l : List ℕ) (i y : ℕ) → set l i (y % 256) ≡ sets l i (bytesOf 1 y)
 unfolding bytesOf
 one-byte l i y = refl
 
+-- Flags that are 0 or 1 are as they would be put
+
+module _ (s : List ℕ) (e : isMarked s ≡ true) where
+  pub known-marked : mark (flag (getD s 1 0)) ≡ getD s 1 0
+  unfolding isMarked flag mark
+  known-marked =
+      let m : getD s 1 0 ≤ 1 = leb-true _ _ (and-left (leb (getD s 1 0) 1) _ e) in
+      by-cases (decLt 0 (getD s 1 0)) (λ h. let y : getD s 1 0 ≡ 1 = omega arith in rw y refl) (λ h. let y : getD s 1 0 ≡ 0 = omega arith in rw y refl)
+
+  pub live-marked : mark (flag (getD s 2 0)) ≡ getD s 2 0
+  unfolding isMarked flag mark
+  live-marked = let y : getD s 2 0 ≡ 1 = eqb-true _ _ (and-right (leb (getD s 1 0) 1) _ e) in rw y refl
+
+-- so a state with the same limit and flags is put by its other places
+pub placed : (s : List ℕ) → isMarked s ≡ true → (st : State) → st .limit ≡ getD s 0 0 → st .known ≡ flag (getD s 1 0) → st .live ≡ flag (getD s 2 0) → placesIn s st ≡ statePlaces st
+placed s e st l k v = sym (rw (l, k, v, known-marked s e, live-marked s e) refl)
+
+pub marked-put : (st : State) → st .live ≡ true → isMarked (statePlaces st) ≡ true
+unfolding isMarked mark
+marked-put st e = rw e (known (st .known))
+  where
+    known : (b : Bool) → leb (mark b) 1 && true ≡ true
+    known true = refl
+    known false = refl
+
 -- Numbers that bytes of a label hold, or none behind it
 
-pub ber-none : numberAt noBer 0 8 ≡ 0
+pub ber-none : numberAt noBer 1 8 ≡ 0
 unfolding numberAt
 ber-none = refl
 
@@ -127,15 +169,12 @@ number-bytes (suc n) v a b =
     ∙ rw (number-bytes n (v / 256) a (v % 256 ∷ b), q) d
 
 module _ (x y : ℕ) where
-  pub first-number : (n : ℕ) → x < 2 ^ 64 → numberAt (bytesOf 8 x ++ bytesOf n y) 0 8 ≡ x
-  first-number n h = number-bytes 8 x [] (bytesOf n y) ∙ omega arith
+  pub first-number : x < 2 ^ 64 → numberAt (bytesOf 8 x ++ bytesOf 8 y) 0 8 ≡ x
+  first-number h = number-bytes 8 x [] (bytesOf 8 y) ∙ omega arith
 
-  pub last-number : y < 2 ^ 64 → numberAt (bytesOf 8 x ++ bytesOf 8 y) 8 8 ≡ y
-  last-number h = (rw (append-nil, bytes-length 8 x) at (number-bytes 8 y (bytesOf 8 x) [])) ∙ omega arith
+  pub last-number : (n : ℕ) → y < 2 ^ 64 → numberAt (bytesOf n x ++ bytesOf 8 y) n 8 ≡ y
+  last-number n h = (rw (append-nil, bytes-length n x) at (number-bytes 8 y (bytesOf n x) [])) ∙ omega arith
 
-  one-number : bytesOf 1 y ≡ y % 256 ∷ []
+  pub lead-byte : getD (bytesOf 1 x ++ bytesOf 8 y) 0 0 ≡ x % 256
   unfolding bytesOf
-  one-number = refl
-
-  pub ninth-byte : getD (bytesOf 8 x ++ bytesOf 1 y) 8 0 ≡ y % 256
-  ninth-byte = rw (one-number) (rw (bytes-length 8 x) at (byte-behind [] (bytesOf 8 x) (y % 256) []))
+  lead-byte = refl

@@ -48,7 +48,7 @@ started st piece b e h =
 
 -- A state that was put is the one that is read
 
-flag-mark : (b : Bool) → flag (mark b) ≡ b
+pub flag-mark : (b : Bool) → flag (mark b) ≡ b
 unfolding flag mark
 flag-mark true = refl
 flag-mark false = refl

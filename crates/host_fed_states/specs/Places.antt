@@ -1,7 +1,7 @@
 -- A fed walker's state as a host has it, ten numbers: include/brinethimble.h.
 use Prim.Native.Nat.{ℕ, zero, suc, _+_, _-_, _/_, _%_}
 use mathlib.Core.List.{List, [], _∷_, _++_}
-use mathlib.Core.Bool.{Bool, not, cond}
+use mathlib.Core.Bool.{Bool, not, cond, _&&_}
 use lib.ListN.{length, getD}
 use lib.Dec.{eqb, ltb, leb}
 use lib.Seq.{sets}
@@ -16,6 +16,10 @@ use Rattle.host_numbers.specs.Numbers.{mark}
 unfoldable pub flag : ℕ → Bool
 flag n = not (eqb n 0)
 
+-- the walk is open, and the flags' places are 0 or 1
+unfoldable pub isMarked : List ℕ → Bool
+isMarked s = leb (getD s 1 0) 1 && eqb (getD s 2 0) 1
+
 -- the last n bytes of a number
 unfoldable pub bytesOf : ℕ → ℕ → List ℕ
 bytesOf zero v = []
@@ -25,12 +29,16 @@ bytesOf (suc n) v = bytesOf n (v / 256) ++ (v % 256 ∷ [])
 unfoldable pub eightPut : ℕ → ℕ → List ℕ → List ℕ
 eightPut n at lent = cond (leb (at + 8) (length lent)) (sets lent at (bytesOf 8 n)) lent
 
+-- the number that the eight bytes at a place hold, 0 where they are not all there
+unfoldable pub eightOf : List ℕ → ℕ → ℕ
+eightOf b at = cond (leb (at + 8) (length b)) (numberAt b at 8) 0
+
 -- the limit, whether it is a known end, whether the walk is open; where the key starts, how many bytes have come from there on,
--- where walking last went on; the label, eight bytes a number, and the nine bytes behind it
+-- where walking last went on; the label, eight bytes a number; the byte behind it, and the eight behind that
 abbrev pub statePlaces : State → List ℕ
 statePlaces st =
-    st .limit ∷ mark (st .known) ∷ mark (st .live) ∷ st .at ∷ st .have ∷ st .since ∷ numberAt (st .label) 0 8 ∷ numberAt (st .label) 8 8 ∷ numberAt (st .ber) 0 8
-    ∷ getD (st .ber) 8 0 ∷ []
+    st .limit ∷ mark (st .known) ∷ mark (st .live) ∷ st .at ∷ st .have ∷ st .since ∷ numberAt (st .label) 0 8 ∷ numberAt (st .label) 8 8 ∷ getD (st .ber) 0 0
+    ∷ numberAt (st .ber) 1 8 ∷ []
 
 abbrev pub stateOf : List ℕ → State
 stateOf s =
@@ -42,16 +50,20 @@ stateOf s =
       have = getD s 4 0;
       since = getD s 5 0;
       label = bytesOf 8 (getD s 6 0) ++ bytesOf 8 (getD s 7 0);
-      ber = bytesOf 8 (getD s 8 0) ++ bytesOf 1 (getD s 9 0);
+      ber = bytesOf 1 (getD s 8 0) ++ bytesOf 8 (getD s 9 0);
     }
 
--- the same with other places behind the flags
-abbrev pub placesOf : State → ℕ → ℕ → ℕ → ℕ → ℕ → ℕ → ℕ → List ℕ
-placesOf st at have since first last ber ninth = st .limit ∷ mark (st .known) ∷ mark (st .live) ∷ at ∷ have ∷ since ∷ first ∷ last ∷ ber ∷ ninth ∷ []
+-- the limit and the flags as they are, and other places behind them
+abbrev pub placesOf : List ℕ → ℕ → ℕ → ℕ → ℕ → ℕ → ℕ → ℕ → List ℕ
+placesOf s at have since first last lead eight = getD s 0 0 ∷ getD s 1 0 ∷ getD s 2 0 ∷ at ∷ have ∷ since ∷ first ∷ last ∷ lead ∷ eight ∷ []
+
+-- those of a state
+abbrev pub placesIn : List ℕ → State → List ℕ
+placesIn s st = placesOf s (st .at) (st .have) (st .since) (numberAt (st .label) 0 8) (numberAt (st .label) 8 8) (getD (st .ber) 0 0) (numberAt (st .ber) 1 8)
 
 -- a key at w of bytes that come at a place, and all that is kept of what is behind it
-abbrev pub keyPlaces : State → ℕ → ℕ → List ℕ → ℕ → List ℕ
-keyPlaces st at since l w = placesOf st (at + w) (length l - w) since (numberAt l w 8) (numberAt l (w + 8) 8) (numberAt l (w + 16) 8) (getD l (w + 24) 0)
+abbrev pub keyPlaces : List ℕ → ℕ → ℕ → List ℕ → ℕ → List ℕ
+keyPlaces s at since l w = placesOf s (at + w) (length l - w) since (numberAt l w 8) (numberAt l (w + 8) 8) (getD l (w + 16) 0) (numberAt l (w + 17) 8)
 
 -- where a search starts in a piece, before a key's start has come whole; behind all of it where none does
 unfoldable pub startOf : State → List ℕ → Search

@@ -19,12 +19,13 @@ pub(crate) fn whole_key(b: &[u8], w: usize, n: usize) -> bool
     search::key_at(b, w)
 }
 
-// The length that nine bytes begin with, by the numbers that hold them. The eight behind the first are one number, whose last bytes are
-// shifted out: twice by half of their bits, since all 64 go where no byte holds the value.
-pub(crate) fn length_of(ber: u64, ninth: u64) -> Length
-    ensures { λ r. ⌜ r ≡ lengthAt (bytesOf 8 ber ++ bytesOf 1 ninth) 0 ⌝ }
+// The length that nine bytes begin with, by the numbers that hold the first and the others. The last bytes of those are shifted out:
+// twice by half of their bits, since all 64 go where no byte holds the value. Whether the first of several bytes is 0 is asked of the
+// value: a byte of the eight that is asked for by itself keeps the compiler from reading them at once.
+pub(crate) fn length_of(lead: u64, eight: u64) -> Length
+    ensures { λ r. ⌜ r ≡ lengthAt (bytesOf 1 lead ++ bytesOf 8 eight) 0 ⌝ }
 {
-    let first = ber / 0x100_0000_0000_0000;
+    let first = lead % 256;
     if first < 0x80 {
         return Length::Is(Field {
             value: first,
@@ -36,9 +37,8 @@ pub(crate) fn length_of(ber: u64, ninth: u64) -> Length
         return Length::None;
     }
     let n = first - 0x80;
-    let rest = ber % 0x100_0000_0000_0000 * 256 + ninth % 256;
     let half = 32 - 4 * n;
-    let value = rest >> half >> half;
+    let value = eight >> half >> half;
     let size = (1 + n) as usize;
     if n < 2 {
         return Length::Is(Field {
@@ -47,9 +47,10 @@ pub(crate) fn length_of(ber: u64, ninth: u64) -> Length
             shortest: 0x80 <= value,
         });
     }
+    let less = 4 * n - 4;
     Length::Is(Field {
         value,
         size,
-        shortest: 0x100_0000_0000_0000 <= rest,
+        shortest: 1 <= value >> less >> less,
     })
 }

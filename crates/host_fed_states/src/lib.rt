@@ -9,10 +9,11 @@ ghost use mathlib.Core.Bool.{_&&_};
 ghost use lib.ListN.{length};
 ghost use lib.Dec.{leb};
 ghost use Rattle.parts.specs.Number.{numberAt};
+ghost use Rattle.lengths.specs.Length.{lengthAt};
 ghost use Rattle.fed_states.specs.State.{sought, goneOn, wholeLabel};
 ghost use Rattle.fed.specs.Parts.{having, restOf};
-ghost use Rattle.host_fed_states.specs.Places.{flag, bytesOf, eightPut, stateOf, statePlaces, placesOf, startOf, seekingOf, keyPlaces};
-ghost use Rattle.host_fed_states.specs.Waited.{nowhere, waitedOf};
+ghost use Rattle.host_fed_states.specs.Places.{flag, isMarked, bytesOf, eightPut, eightOf, stateOf, statePlaces, placesOf, placesIn, startOf, seekingOf, keyPlaces};
+ghost use Rattle.host_fed_states.specs.Waited.{nowhere, valueOf, waitedOf, begunOf};
 use fed::rest;
 use fed::searches;
 use fed_states::State;
@@ -51,6 +52,19 @@ fn eight_at(b: &[u8], at: usize) -> u64
     n
 }
 
+// The same, 0 where they are not all there.
+pub fn eight_of(b: &[u8], at: usize) -> u64
+    ensures { λ r. ⌜ r ≡ eightOf (now (b .entry)) at ⌝ }
+{
+    if b.len() < 8 {
+        return 0;
+    }
+    if b.len() - 8 < at {
+        return 0;
+    }
+    eight_at(b, at)
+}
+
 // Puts the eight bytes that hold a number at a place, where there is room for all of them.
 pub fn put_eight(b: &mut [u8], at: usize, n: u64)
     ensures { λ r. ⌜ now (b .exit) ≡ eightPut n at (now (b .entry)) ⌝ }
@@ -81,12 +95,12 @@ fn label_of(first: u64, last: u64) -> [u8; 16]
 }
 
 // The nine bytes behind it.
-fn ber_of(first: u64, last: u64) -> [u8; 9]
-    ensures { λ r. ⌜ r ≡ bytesOf 8 first ++ bytesOf 1 last ⌝ }
+fn ber_of(lead: u64, eight: u64) -> [u8; 9]
+    ensures { λ r. ⌜ r ≡ bytesOf 1 lead ++ bytesOf 8 eight ⌝ }
 {
     let mut ber = [0u8; 9];
-    put_eight(&mut ber, 0, first);
-    ber[8] = (last % 256) as u8;
+    ber[0] = (lead % 256) as u8;
+    put_eight(&mut ber, 1, eight);
     ber
 }
 
@@ -123,8 +137,8 @@ pub fn put_state(st: State, s: &mut [u64; 10])
         st.since as u64,
         eight_at(&label, 0),
         eight_at(&label, 8),
-        eight_at(&ber, 0),
-        u64_of(ber[8]),
+        u64_of(ber[0]),
+        eight_at(&ber, 1),
     ];
 }
 
@@ -199,21 +213,12 @@ fn may(live: bool, limit: usize, at: usize, have: usize, n: usize) -> bool
     n <= room - have
 }
 
-// The value that is waited for, where all that is kept of its key has come and n bytes may come.
-pub fn waited(s: &[u64; 10], n: usize) -> Value
-    ensures { λ r. ⌜ r ≡ waitedOf (stateOf (now (s .entry))) n ⌝ }
+// The value behind a key at a place, of which so many bytes have come, by the nine bytes behind its label.
+fn value_of(limit: usize, at: usize, have: usize, lead: u64, eight: u64) -> Value
+    requires { ⌜ at + 25 ≤ limit ⌝ }
+    ensures { λ r. ⌜ r ≡ valueOf limit at have (lengthAt (bytesOf 1 lead ++ bytesOf 8 eight) 0) ⌝ }
 {
-    let live = flag(s[2]);
-    let limit = limit_of(s);
-    let at = s[3] as usize;
-    let have = s[4] as usize;
-    if !may(live, limit, at, have, n) {
-        return nowhere();
-    }
-    if have < 25 {
-        return nowhere();
-    }
-    let l = length_of(s[8], s[9]);
+    let l = length_of(lead, eight);
     let Length::Is(f) = l else {
         return nowhere();
     };
@@ -241,51 +246,108 @@ pub fn waited(s: &[u64; 10], n: usize) -> Value
     }
 }
 
-// Puts all but the limit, which stays, and the flags, which a host may have as any number.
-fn put_places(
+// The value that is waited for, where all that is kept of its key has come and n bytes may come.
+pub fn waited(s: &[u64; 10], n: usize) -> Value
+    ensures { λ r. ⌜ r ≡ waitedOf (stateOf (now (s .entry))) n ⌝ }
+{
+    let live = flag(s[2]);
+    let limit = limit_of(s);
+    let at = s[3] as usize;
+    let have = s[4] as usize;
+    if !may(live, limit, at, have, n) {
+        return nowhere();
+    }
+    if have < 25 {
+        return nowhere();
+    }
+    value_of(limit, at, have, s[8], s[9])
+}
+
+// The value of a key that a piece starts with, where no byte of one has come and all that is kept of it is there.
+pub fn begun(s: &[u64; 10], piece: &[u8]) -> Value
+    ensures { λ r. ⌜ r ≡ begunOf (stateOf (now (s .entry))) (now (piece .entry)) ⌝ }
+{
+    let live = flag(s[2]);
+    let limit = limit_of(s);
+    let at = s[3] as usize;
+    let have = s[4] as usize;
+    if !may(live, limit, at, have, piece.len()) {
+        return nowhere();
+    }
+    if have != 0 {
+        return nowhere();
+    }
+    if !whole_key(piece, 0, piece.len()) {
+        return nowhere();
+    }
+    let lead = u64_of(piece[16]);
+    let eight = eight_at(piece, 17);
+    value_of(limit, at, have, lead, eight)
+}
+
+// Whether the walk is open, and its flags are 0 or 1, as every call puts them.
+pub fn marked(s: &[u64; 10]) -> bool
+    ensures { λ r. ⌜ r ≡ isMarked (now (s .entry)) ⌝ }
+{
+    (s[1] <= 1) & (s[2] == 1)
+}
+
+// Puts all of a state but the limit and the flags, which stay.
+fn put_in(st: State, s: &mut [u64; 10])
+    ensures { λ r. ⌜ now (s .exit) ≡ placesIn (now (s .entry)) st ⌝ }
+{
+    let label = st.label;
+    let ber = st.ber;
+    let first = eight_at(&label, 0);
+    let last = eight_at(&label, 8);
+    let lead = u64_of(ber[0]);
+    let eight = eight_at(&ber, 1);
+    put_places(s, st.at, st.have, st.since, first, last, lead, eight);
+}
+
+// Puts other places behind the limit and the flags, which stay.
+pub fn put_places(
     s: &mut [u64; 10],
     at: usize,
     have: usize,
     since: usize,
     first: u64,
     last: u64,
-    ber: u64,
-    ninth: u64,
+    lead: u64,
+    eight: u64,
 )
-    ensures { λ r. ⌜ now (s .exit) ≡ placesOf (stateOf (now (s .entry))) at have since first last ber ninth ⌝ }
+    ensures { λ r. ⌜ now (s .exit) ≡ placesOf (now (s .entry)) at have since first last lead eight ⌝ }
 {
-    let known = mark(flag(s[1]));
-    let live = mark(flag(s[2]));
     *s = [
         s[0],
-        known,
-        live,
+        s[1],
+        s[2],
         at as u64,
         have as u64,
         since as u64,
         first,
         last,
-        ber,
-        ninth,
+        lead,
+        eight,
     ];
 }
 
 // Puts the state with another count of bytes.
 pub fn put_having(s: &mut [u64; 10], have: usize)
-    ensures { λ r. ⌜ now (s .exit) ≡ statePlaces (having (stateOf (now (s .entry))) have) ⌝ }
+    ensures { λ r. ⌜ now (s .exit) ≡ placesIn (now (s .entry)) (having (stateOf (now (s .entry))) have) ⌝ }
 {
     let at = s[3] as usize;
     let since = s[5] as usize;
     let first = held(s[6]);
     let last = held(s[7]);
-    let ber = held(s[8]);
-    let ninth = s[9] % 256;
-    put_places(s, at, have, since, first, last, ber, ninth);
+    let lead = s[8] % 256;
+    let eight = held(s[9]);
+    put_places(s, at, have, since, first, last, lead, eight);
 }
 
 // Puts the state behind the record whose label is kept.
 pub fn put_done(s: &mut [u64; 10], next: usize)
-    ensures { λ r. ⌜ now (s .exit) ≡ statePlaces (goneOn (stateOf (now (s .entry))) next (stateOf (now (s .entry)) .label)) ⌝ }
+    ensures { λ r. ⌜ now (s .exit) ≡ placesIn (now (s .entry)) (goneOn (stateOf (now (s .entry))) next (stateOf (now (s .entry)) .label)) ⌝ }
 {
     let first = held(s[6]);
     let last = held(s[7]);
@@ -308,7 +370,7 @@ fn half_at(b: &[u8], at: usize, n: usize) -> u64
 
 // Puts the state behind a record whose label stands at a place of some bytes.
 pub fn put_behind(s: &mut [u64; 10], next: usize, b: &[u8], at: usize)
-    ensures { λ r. ⌜ now (s .exit) ≡ statePlaces (goneOn (stateOf (now (s .entry))) next (wholeLabel (now (b .entry)) at)) ⌝ }
+    ensures { λ r. ⌜ now (s .exit) ≡ placesIn (now (s .entry)) (goneOn (stateOf (now (s .entry))) next (wholeLabel (now (b .entry)) at)) ⌝ }
 {
     let first = half_at(b, at, 0);
     let last = half_at(b, at, 8);
@@ -333,7 +395,7 @@ fn seeking(s: &[u64; 10], at: usize, since: usize) -> State
 
 // Puts the state where so many bytes of a key's start have come at a place.
 fn put_sought(s: &mut [u64; 10], at: usize, have: usize, since: usize)
-    ensures { λ r. ⌜ now (s .exit) ≡ statePlaces (sought (seekingOf (stateOf (now (s .entry))) at since) at have) ⌝ }
+    ensures { λ r. ⌜ now (s .exit) ≡ placesIn (now (s .entry)) (sought (seekingOf (stateOf (now (s .entry))) at since) at have) ⌝ }
 {
     put_places(s, at, have, since, 0x060e2b3400000000, 0, 0, 0);
 }
@@ -342,14 +404,14 @@ fn put_sought(s: &mut [u64; 10], at: usize, have: usize, since: usize)
 fn put_key(s: &mut [u64; 10], at: usize, since: usize, b: &[u8], w: usize)
     requires { ⌜ w + 25 ≤ length (now b) ⌝ }
     requires { ⌜ at + w < 2 ^ 64 ⌝ }
-    ensures { λ r. ⌜ now (s .exit) ≡ keyPlaces (stateOf (now (s .entry))) at since (now (b .entry)) w ⌝ }
+    ensures { λ r. ⌜ now (s .exit) ≡ keyPlaces (now (s .entry)) at since (now (b .entry)) w ⌝ }
 {
     let first = eight_at(b, w);
     let last = eight_at(b, w + 8);
-    let ber = eight_at(b, w + 16);
-    let ninth = u64_of(b[w + 24]);
+    let lead = u64_of(b[w + 16]);
+    let eight = eight_at(b, w + 17);
     let have = b.len() - w;
-    put_places(s, at + w, have, since, first, last, ber, ninth);
+    put_places(s, at + w, have, since, first, last, lead, eight);
 }
 
 // Whether a place is one of n bytes, or their end, and all of them are within the limit.
@@ -367,7 +429,7 @@ fn among(limit: usize, at: usize, n: usize, w: usize) -> bool
 
 // Puts what is kept of bytes that come at a place where a search starts, where the walk waits at w.
 pub fn put_rest(s: &mut [u64; 10], at: usize, since: usize, b: &[u8], w: usize)
-    ensures { λ r. ⌜ now (s .exit) ≡ statePlaces (restOf (seekingOf (stateOf (now (s .entry))) at since) (now (b .entry)) w) ⌝ }
+    ensures { λ r. ⌜ now (s .exit) ≡ placesIn (now (s .entry)) (restOf (seekingOf (stateOf (now (s .entry))) at since) (now (b .entry)) w) ⌝ }
 {
     let limit = limit_of(s);
     if !among(limit, at, b.len(), w) {
@@ -390,5 +452,5 @@ pub fn put_rest(s: &mut [u64; 10], at: usize, since: usize, b: &[u8], w: usize)
         return;
     }
     let st = rest(seeking(s, at, since), b, w);
-    put_state(st, s);
+    put_in(st, s);
 }

@@ -1,7 +1,9 @@
--- `host_fed::brine_feed` meets its contract: the call ends before a search, or by it.
-use mathlib.Core.Path.{_≡_, sym}
-use native.Mathlib.Omega.{arith}
+-- `host_fed::brine_feed` meets its contract: the piece comes before a key or behind one, or the state was made up.
+use mathlib.Core.Path.{_≡_, sym, _∙_}
+use mathlib.Core.Bool.{true}
+use borrow.Author.Tests.{not-false}
 use denote.Ref.{now}
+use Rattle.host_fed_states.specs.Places.{isMarked}
 use Rattle.host_fed.specs.Places.{Answers}
 use borrow.Author.Needs.{needs}
 use Rattle.host_fed.proofs.brine_feed.Statement.{statement}
@@ -9,21 +11,28 @@ use Rattle.host_fed.proofs.brine_feed.Tie as tie
 
 returns : tie.Need-returns
 unfolding Answers
-returns c = c .before .before .begin .ensures .ends (c .if1 .taken)
+returns c = c .take .ensures
 
 returns-2 : tie.Need-returns-2
 unfolding Answers
-returns-2 c =
-    let b = c .before .before .before .before .before .before .begin .ensures in
-    let x = b .searches (c .before .before .before .before .if1 .left) in
-    let u = b .same (c .before .before .before .before .if1 .left) in
-    rw (x .is, u .0, u .1) at (c .walk .ensures (now (c .before .before .before .before .before .before .before .before .before .before .before .args .state)))
+returns-2 c = c .before-key .ensures
+
+returns-3 : tie.Need-returns-3
+unfolding Answers
+returns-3 c = c .behind-key .ensures
+
+is-marked : (c : tie.Else1) → isMarked (now (c .before .before .before .before .args .state)) ≡ true
+is-marked c = sym (c .before .marked .ensures) ∙ not-false _ (c .if1 .left)
 
 pub brine-feed-spec : {M : Type 1} → statement M
 brine-feed-spec =
     tie.close
     (tie.spec
     (λ c κs. search needs)
+    (λ c κs. search needs)
     returns
-    (λ c κs. let x = c .before .before .before .before .before .begin .ensures .searches (c .before .before .before .if1 .left) in (omega (arith, x .inside), x .fits))
-    returns-2)
+    (λ c. search needs)
+    (λ c κs. is-marked (c .before .before .before .before .before))
+    returns-2
+    (λ c κs. is-marked (c .before .before .before .before .before))
+    returns-3)

@@ -5,6 +5,7 @@ use native.Mathlib.Omega.{arith}
 use denote.Ref.{now}
 use Rattle.fed.proofs.Reaching.{Searching, Reached, reached, reached-found, reached-nothing, reached-much, reached-shut}
 use Rattle.host_fed_states.specs.Places.{stateOf}
+use Rattle.host_fed_states.proofs.Laws.{marked-put}
 use Rattle.host_fed_states.proofs.Searches.{started-put}
 use Rattle.host_fed.proofs.Laws.{is-found, is-nothing, is-refused, begun-ends, begun-searches}
 use borrow.Author.Needs.{needs}
@@ -23,7 +24,7 @@ limit-fits : (c : tie.Then1) → c .before .before .before .before .reach .resul
 limit-fits c = search needs
 
 returns : tie.Need-returns
-returns c = rw (c .put-state2 .ensures) (begun-searches _ _ _ _ _ _ refl (started-put _ _ _ _ (starts (c .before .before .before))))
+returns c = rw (c .put-state2 .ensures) (let x = starts (c .before .before .before) in begun-searches _ _ _ _ _ _ refl (marked-put (c .before .before .before .before .before .before .before .reach .result .state) (x .live)) (started-put _ _ _ _ x))
 
 returns-2 : tie.Need-returns-2
 returns-2 c =

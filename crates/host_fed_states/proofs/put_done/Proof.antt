@@ -16,7 +16,7 @@ returns : tie.Need-returns
 returns c =
     let a = c .before .before .before .before .held .ensures in
     let b = c .before .before .held2 .ensures in
-    rw (c .put-places .ensures, a, b, first-number _ _ 8 (rw a at (first-fits (c .before .before .before .before))), last-number _ _ (rw b at (last-fits (c .before .before))), ber-none) refl
+    rw (c .put-places .ensures, a, b, first-number _ _ (rw a at (first-fits (c .before .before .before .before))), last-number _ _ 8 (rw b at (last-fits (c .before .before))), ber-none) refl
 
 pub put-done-spec : {M : Type 1} → statement M
 put-done-spec = tie.close (tie.spec (λ c. search needs) (λ c κs. search needs) (λ c. search needs) (λ c κs. search needs) (λ c κs. search needs) returns)

@@ -6,7 +6,7 @@ use Rattle.host_fed_states.proofs.put_key.Statement.{statement}
 use Rattle.host_fed_states.proofs.put_key.Tie as tie
 
 returns : tie.Need-returns
-returns c = rw (c .put-places .ensures, c .before .before .before .before .before .before .eight-at .ensures, c .before .before .before .before .before .eight-at2 .ensures, c .before .before .before .before .eight-at3 .ensures, c .before .before .u64-of .ensures) refl
+returns c = rw (c .put-places .ensures, c .before .before .before .before .before .before .eight-at .ensures, c .before .before .before .before .before .eight-at2 .ensures, c .before .before .before .u64-of .ensures, c .before .before .eight-at3 .ensures) refl
 
 pub put-key-spec : {M : Type 1} → statement M
 put-key-spec =
@@ -16,10 +16,10 @@ put-key-spec =
     (λ c. search needs)
     (λ c κs. omega (arith, c .before .before .pre .0))
     (λ c. search needs)
-    (λ c κs. omega (arith, c .before .before .before .pre .0))
-    (λ c. search needs)
     (λ c. search needs)
     (λ c κs. search needs)
+    (λ c. search needs)
+    (λ c κs. omega (arith, c .before .before .before .before .before .pre .0))
     (λ c. search needs)
     (λ c. search needs)
     (λ c κs. search needs)

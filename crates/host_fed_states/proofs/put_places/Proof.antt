@@ -5,17 +5,7 @@ use Rattle.host_fed_states.proofs.put_places.Statement.{statement}
 use Rattle.host_fed_states.proofs.put_places.Tie as tie
 
 returns : tie.Need-returns
-returns c = rw (c .before .before .before .before .before .mark .ensures, c .before .before .before .before .before .before .flag .ensures, c .before .before .mark2 .ensures, c .before .before .before .flag2 .ensures) refl
+returns c = refl
 
 pub put-places-spec : {M : Type 1} → statement M
-put-places-spec =
-    tie.close
-    (tie.spec
-    (λ c. search needs)
-    (λ c κs. search needs)
-    (λ c κs. search needs)
-    (λ c. search needs)
-    (λ c κs. search needs)
-    (λ c κs. search needs)
-    (λ c. search needs)
-    returns)
+put-places-spec = tie.close (tie.spec (λ c. search needs) (λ c. search needs) (λ c. search needs) returns)

@@ -14,7 +14,7 @@ ber c = search needs
 
 returns : tie.Need-returns
 returns c =
-    rw (c .before .before .before .before .before .before .before .before .before .before .before .mark .ensures, c .before .before .before .before .before .before .before .before .before .before .mark2 .ensures, c .before .before .before .before .before .before .eight-at .ensures, c .before .before .before .before .eight-at2 .ensures, c .before .before .eight-at3 .ensures, c .before .u64-of .ensures)
+    rw (c .before .before .before .before .before .before .before .before .before .before .before .mark .ensures, c .before .before .before .before .before .before .before .before .before .before .mark2 .ensures, c .before .before .before .before .before .before .eight-at .ensures, c .before .before .before .before .eight-at2 .ensures, c .before .before .before .u64-of .ensures, c .before .eight-at3 .ensures)
     refl
 
 pub put-state-spec : {M : Type 1} → statement M
@@ -28,7 +28,7 @@ put-state-spec =
     (λ c. search needs)
     (λ c κs. omega (arith, label (c .before .before .before .before .before .before .before)))
     (λ c. search needs)
-    (λ c κs. omega (arith, ber (c .before .before .before .before .before .before .before .before .before)))
-    (λ c. search needs)
     (λ c κs. search needs)
+    (λ c. search needs)
+    (λ c κs. omega (arith, ber (c .before .before .before .before .before .before .before .before .before .before)))
     returns)
