@@ -1,7 +1,6 @@
 -- How a call begins: a piece is refused, a search starts, or a record comes before one. Assumes nothing.
 use Prim.Native.Nat.{ℕ, _+_, _-_, _*_, _<_}
 use mathlib.Core.Path.{_≡_, refl, sym, ap, _∙_}
-use mathlib.Core.Bool.{true}
 use mathlib.Core.List.{List}
 use mathlib.Core.Logic.{by-cases}
 use native.Mathlib.Decide.{decLt}
@@ -22,7 +21,7 @@ use Rattle.fed_pieces.specs.Pieces.{refusalOf, behind, feedOn, Fits}
 use Rattle.fed_pieces.proofs.Laws.{feeds, number-refusal, refusal-none, taken-fits}
 use Rattle.fed_pieces.proofs.Told.{Further, further}
 use Rattle.host_records.specs.Batch.{placesEach, recordPut}
-use Rattle.host_fed_states.specs.Places.{isMarked, stateOf, statePlaces, seekingOf}
+use Rattle.host_fed_states.specs.Places.{stateOf, statePlaces, seekingOf}
 use Rattle.host_fed_records.specs.declared.Start.{Start}
 use Rattle.host_fed_records.specs.Many.{ends, Ran, Ended, Answered}
 use Rattle.host_fed_records.specs.Begun.{Starts, Begun}
@@ -46,12 +45,12 @@ module _ (st : State) (piece : List ℕ) where
     unfolding number
     begun-refused b n k e z o x =
         let y : n ≡ refusalOf st (length piece) = ap (λ (t : ToldAt Taken (Passed Item)). number t) e ∙ number-refusal st piece in
-        record { ends = λ w. rw x (is-refused st piece most state rs ls out n y z); marked = λ w. absurd (o (sym x ∙ w)); starts = λ w. absurd (o (sym x ∙ w)) }
+        record { ends = λ w. rw x (is-refused st piece most state rs ls out n y z); starts = λ w. absurd (o (sym x ∙ w)) }
 
     -- a search starts at the state that is put
-    pub begun-starts : {s rs′ ls′ o : List ℕ} (b : Start) (q : State) → b .status ≡ 1 → isMarked s ≡ true → q ≡ seekingOf (stateOf s) (b .at) (b .since) → Starts st piece most q (b .taken) (b .count) rs ls rs′ ls′
+    pub begun-starts : {s rs′ ls′ o : List ℕ} (b : Start) (q : State) → b .status ≡ 1 → q ≡ seekingOf (stateOf s) (b .at) (b .since) → Starts st piece most q (b .taken) (b .count) rs ls rs′ ls′
         → Begun st piece most b state rs ls out s rs′ ls′ o
-    begun-starts b q e y z x = record { ends = λ n. absurd (n e); marked = λ m. y; starts = λ m. rw z at x }
+    begun-starts b q e z x = record { ends = λ n. absurd (n e); starts = λ m. rw z at x }
 
     -- one that is taken, whose records were put
     module _ (taken : number (feedOf st piece) ≡ 0) where
@@ -66,7 +65,7 @@ module _ (st : State) (piece : List ℕ) where
 
       begun-done : {rs′ ls′ : List ℕ} (b : Start) (e : Taken) (m : ℕ) → Done piece most (took st 0) rs ls e m rs′ ls′ → b .status ≡ 0
           → Begun st piece most b state rs ls out (statePlaces (e .state)) rs′ ls′ (ends m (e .taken))
-      begun-done b e m d x = record { ends = λ y. rw x (done-answers e m d); marked = λ y. absurd (omega arith); starts = λ y. absurd (omega arith) }
+      begun-done b e m d x = record { ends = λ y. rw x (done-answers e m d); starts = λ y. absurd (omega arith) }
 
       -- the last part of the call
       pub ended-answers : {q : Taken} {n : ℕ} {rs₁ ls₁ rs′ ls′ s o : List ℕ} → Ran piece most (took st 0) 0 rs ls q n rs₁ ls₁ → Ended piece most q n rs₁ ls₁ rs′ ls′ s o

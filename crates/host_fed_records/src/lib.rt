@@ -1,6 +1,5 @@
 // What a host links of the fed walker's lists: as many records of a piece as there is lent room for (include/brinethimble.h).
 ghost use mathlib.Core.Path.{_≡_};
-ghost use mathlib.Core.Bool.{true};
 ghost use Prim.Native.Nat.{_+_, _-_, _*_, _^_, _≤_, _<_};
 ghost use lib.ListN.{length};
 ghost use lib.Seq.{sets};
@@ -10,7 +9,7 @@ ghost use Rattle.fed_bytes.specs.Feed.{took, feedOf};
 ghost use Rattle.fed_bytes.proofs.Walking.{onward};
 ghost use Rattle.fed_pieces.specs.Pieces.{recordsOf, endOf, Fits};
 ghost use Rattle.host_records.specs.Batch.{placesEach, recordPut, recordsPut};
-ghost use Rattle.host_fed_states.specs.Places.{isMarked, stateOf, seekingOf};
+ghost use Rattle.host_fed_states.specs.Places.{stateOf, seekingOf};
 ghost use Rattle.host_fed_states.proofs.Values.{Tells};
 ghost use Rattle.host_fed_records.specs.Many.{room, labelsPut, manyState, manyPlaces, Ended, Roomless};
 ghost use Rattle.host_fed_records.specs.Begun.{Begun};
@@ -19,10 +18,10 @@ use fed::reach;
 use fed_pieces::refusal;
 use host_fed_states::Value;
 use host_fed_states::limit_of;
-use host_fed_states::marked;
 use host_fed_states::put_behind;
 use host_fed_states::put_done;
 use host_fed_states::put_eight;
+use host_fed_states::put_flags;
 use host_fed_states::put_having;
 use host_fed_states::put_rest;
 use host_fed_states::put_state;
@@ -198,7 +197,6 @@ fn within(
     most: usize,
     out: &mut [u64; 2],
 ) -> Start
-    requires { ⌜ isMarked (now state) ≡ true ⌝ }
     requires { ⌜ Tells (stateOf (now state)) (length (now piece)) v ⌝ }
     requires { ⌜ 0 < most ⌝ }
     requires { ⌜ placesEach * most ≤ length (now records) ⌝ }
@@ -211,6 +209,7 @@ fn within(
     if n < taken {
         *out = [0, n as u64];
         put_having(state, have + n);
+        put_flags(state);
         return ended(0);
     }
     let k = v.klv;
@@ -230,11 +229,11 @@ fn within(
     }
     *out = [1, taken as u64];
     put_done(state, v.next);
+    put_flags(state);
     ended(0)
 }
 
-// The first part of a call. Most end, or come to a search, without a state being made of the numbers, where the flags are 0 or 1;
-// behind it they are.
+// The first part of a call. Most end, or come to a search, without a state being made of the numbers.
 fn begin(
     state: &mut [u64; 10],
     piece: &[u8],
@@ -248,22 +247,20 @@ fn begin(
     requires { ⌜ 16 * most ≤ length (now labels) ⌝ }
     ensures { λ r. ⌜ Begun (stateOf (now (state .entry))) (now (piece .entry)) most r (now (state .entry)) (now (records .entry)) (now (labels .entry)) (now (out .entry)) (now (state .exit)) (now (records .exit)) (now (labels .exit)) (now (out .exit)) ⌝ }
 {
-    if marked(state) {
-        let v = waited(state, piece.len());
-        if v.due != 0 {
-            return within(v, state, piece, records, labels, most, out);
-        }
-        let b = starting(state, piece);
-        if b.taken < piece.len() {
-            let since = state[5] as usize;
-            return Start {
-                at: b.at,
-                since,
-                taken: b.taken,
-                count: 0,
-                status: SEARCHES,
-            };
-        }
+    let v = waited(state, piece.len());
+    if v.due != 0 {
+        return within(v, state, piece, records, labels, most, out);
+    }
+    let b = starting(state, piece);
+    if b.taken < piece.len() {
+        let since = state[5] as usize;
+        return Start {
+            at: b.at,
+            since,
+            taken: b.taken,
+            count: 0,
+            status: SEARCHES,
+        };
     }
     resume(state, piece, records, labels, most, out)
 }
@@ -305,7 +302,6 @@ fn walk(
     state: &mut [u64; 10],
     out: &mut [u64; 2],
 )
-    requires { ⌜ isMarked (now state) ≡ true ⌝ }
     requires { ⌜ Fits (now piece) (stateOf (now state) .limit) (took (seekingOf (stateOf (now state)) here from) i) ⌝ }
     requires { ⌜ i < length (now piece) ⌝ }
     requires { ⌜ n < most ⌝ }
@@ -324,6 +320,7 @@ fn walk(
             Step::Rests(c) => {
                 *out = [m as u64, piece.len() as u64];
                 put_rest(state, here, since, tail, c.at);
+                put_flags(state);
                 return;
             }
             Step::Refused => return,
@@ -337,6 +334,7 @@ fn walk(
                 }
                 *out = [m as u64, (i + p) as u64];
                 put_behind(state, since, tail, r.at);
+                put_flags(state);
                 return;
             }
         }

@@ -20,7 +20,7 @@ use Rattle.fed_states.specs.declared.State.{State}
 use Rattle.fed_states.specs.State.{noLabel, noBer, wholeLabel}
 use Rattle.fed_states.proofs.Laws.{and-left, and-right, label-whole, label-cut}
 use Rattle.host_numbers.specs.Numbers.{mark}
-use Rattle.host_fed_states.specs.Places.{flag, isMarked, bytesOf, eightPut, eightOf, statePlaces, placesIn}
+use Rattle.host_fed_states.specs.Places.{flag, isMarked, bytesOf, eightPut, eightOf, statePlaces, placesIn, flagsPut}
 
 pub bytes-length : (n v : ℕ) → length (bytesOf n v) ≡ n
 unfolding bytesOf
@@ -113,6 +113,10 @@ module _ (s : List ℕ) (e : isMarked s ≡ true) where
 -- so a state with the same limit and flags is put by its other places
 pub placed : (s : List ℕ) → isMarked s ≡ true → (st : State) → st .limit ≡ getD s 0 0 → st .known ≡ flag (getD s 1 0) → st .live ≡ flag (getD s 2 0) → placesIn s st ≡ statePlaces st
 placed s e st l k v = sym (rw (l, k, v, known-marked s e, live-marked s e) refl)
+
+-- and so is any, where the flags are put
+pub flags-placed : (s : List ℕ) (st : State) → st .limit ≡ getD s 0 0 → st .known ≡ flag (getD s 1 0) → st .live ≡ flag (getD s 2 0) → flagsPut (placesIn s st) ≡ statePlaces st
+flags-placed s st l k v = sym (rw (l, k, v) refl)
 
 pub marked-put : (st : State) → st .live ≡ true → isMarked (statePlaces st) ≡ true
 unfolding isMarked mark

@@ -2,7 +2,7 @@
 use Prim.Native.Nat.{ℕ, zero, suc, _+_, _-_, _/_, _%_}
 use mathlib.Core.List.{List, [], _∷_, _++_}
 use mathlib.Core.Bool.{Bool, not, cond, _&&_}
-use lib.ListN.{length, getD}
+use lib.ListN.{length, getD, set}
 use lib.Dec.{eqb, ltb, leb}
 use lib.Seq.{sets}
 use Rattle.parts.specs.Number.{numberAt}
@@ -60,6 +60,10 @@ placesOf s at have since first last lead eight = getD s 0 0 ∷ getD s 1 0 ∷ g
 -- those of a state
 abbrev pub placesIn : List ℕ → State → List ℕ
 placesIn s st = placesOf s (st .at) (st .have) (st .since) (numberAt (st .label) 0 8) (numberAt (st .label) 8 8) (getD (st .ber) 0 0) (numberAt (st .ber) 1 8)
+
+-- the flags as 0 or 1
+abbrev pub flagsPut : List ℕ → List ℕ
+flagsPut s = set (set s 1 (mark (flag (getD s 1 0)))) 2 (mark (flag (getD s 2 0)))
 
 -- a key at w of bytes that come at a place, and all that is kept of what is behind it
 abbrev pub keyPlaces : List ℕ → ℕ → ℕ → List ℕ → ℕ → List ℕ

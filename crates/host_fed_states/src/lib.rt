@@ -12,7 +12,7 @@ ghost use Rattle.parts.specs.Number.{numberAt};
 ghost use Rattle.lengths.specs.Length.{lengthAt};
 ghost use Rattle.fed_states.specs.State.{sought, goneOn, wholeLabel};
 ghost use Rattle.fed.specs.Parts.{having, restOf};
-ghost use Rattle.host_fed_states.specs.Places.{flag, isMarked, bytesOf, eightPut, eightOf, stateOf, statePlaces, placesOf, placesIn, startOf, seekingOf, keyPlaces};
+ghost use Rattle.host_fed_states.specs.Places.{flag, isMarked, bytesOf, eightPut, eightOf, stateOf, statePlaces, placesOf, placesIn, flagsPut, startOf, seekingOf, keyPlaces};
 ghost use Rattle.host_fed_states.specs.Waited.{nowhere, valueOf, waitedOf, begunOf};
 use fed::rest;
 use fed::searches;
@@ -290,6 +290,16 @@ pub fn marked(s: &[u64; 10]) -> bool
     ensures { λ r. ⌜ r ≡ isMarked (now (s .entry)) ⌝ }
 {
     (s[1] <= 1) & (s[2] == 1)
+}
+
+// Puts the flags as 0 or 1; all else stays.
+pub fn put_flags(s: &mut [u64; 10])
+    ensures { λ r. ⌜ now (s .exit) ≡ flagsPut (now (s .entry)) ⌝ }
+{
+    let known = mark(flag(s[1]));
+    let live = mark(flag(s[2]));
+    s[1] = known;
+    s[2] = live;
 }
 
 // Puts all of a state but the limit and the flags, which stay.

@@ -20,10 +20,9 @@ returns-2 c = rw (c .before .before .before .before .before .before .before .bef
 
 walk-requires : tie.Need-walk-requires
 walk-requires c κs =
-    let b = c .before .before .before .before .before .before .before .before .before .before .begin .ensures in
-    let x = b .starts (c .before .before .before .before .if2 .left) in
+    let x = c .before .before .before .before .before .before .before .before .before .before .begin .ensures .starts (c .before .before .before .before .if2 .left) in
     let l = c .before .before .before .before .before .before .before .before .before .before .before .before .before .before .before .before .lesser .ensures in
-    (b .marked (c .before .before .before .before .if2 .left), (x .fits, (x .inside, (x .room, (omega (arith, ran-records _ _ (x .ran)), omega (arith, ran-labels _ _ (x .ran)))))))
+    (x .fits, (x .inside, (x .room, (omega (arith, ran-records _ _ (x .ran)), omega (arith, ran-labels _ _ (x .ran))))))
 
 returns-3 : tie.Need-returns-3
 returns-3 c =

@@ -10,7 +10,6 @@ use denote.Ref.{now}
 use Rattle.fed_states.proofs.Laws.{and-left, and-right}
 use Rattle.fed.proofs.Reaching.{Searching, Reached, reached, reached-found, reached-nothing, reached-much, reached-shut}
 use Rattle.host_fed_states.specs.Places.{stateOf}
-use Rattle.host_fed_states.proofs.Laws.{marked-put}
 use Rattle.host_fed_states.proofs.Searches.{put-seeking}
 use Rattle.host_fed_records.proofs.Beginning.{begun-refused, begun-starts, begun-nothing, begun-over, starts-search, starts-behind}
 use borrow.Author.Needs.{needs}
@@ -38,11 +37,11 @@ returns : tie.Need-returns
 returns c =
     let e = c .before .before .before .before .before .before .before .put .ensures in
     rw (e .0, e .1, c .before .put-state .ensures)
-    (let x = starts-behind _ _ _ [] _ _ [] _ _ _ (some (c .before .before .before .before .before .before .before .before .before .before .before .before .before .before .before .before .before .before .before .before .before)) (reached-found _ _ _ (is-reached (c .before .before .before .before .before .before .before .before .before .before .before .before .before .before .before)) _ _ (c .before .before .before .before .before .before .before .before .before .before .before .before .a .given .1)) (ltb-true _ _ (and-right (ltb 1 (c .before .before .before .before .before .before .before .before .before .before .before .before .before .before .before .before .before .before .before .before .before .args .most)) _ (c .if1 .taken))) (ltb-true _ _ (and-left _ _ (c .if1 .taken))) in
-    begun-starts _ _ _ _ _ _ _ _ _ refl (marked-put (c .before .before .before .before .before .before .before .before .before .before .before .before .before .before .before .reach .result .state) (x .fits .live)) (put-seeking (c .before .before .before .before .before .before .before .before .before .before .before .before .before .before .before .reach .result .state) _) x)
+    (begun-starts _ _ _ _ _ _ _ _ _ refl (put-seeking (c .before .before .before .before .before .before .before .before .before .before .before .before .before .before .before .reach .result .state) _)
+    (starts-behind _ _ _ [] _ _ [] _ _ _ (some (c .before .before .before .before .before .before .before .before .before .before .before .before .before .before .before .before .before .before .before .before .before)) (reached-found _ _ _ (is-reached (c .before .before .before .before .before .before .before .before .before .before .before .before .before .before .before)) _ _ (c .before .before .before .before .before .before .before .before .before .before .before .before .a .given .1)) (ltb-true _ _ (and-right (ltb 1 (c .before .before .before .before .before .before .before .before .before .before .before .before .before .before .before .before .before .before .before .before .before .args .most)) _ (c .if1 .taken))) (ltb-true _ _ (and-left _ _ (c .if1 .taken)))))
 
 returns-2 : tie.Need-returns-2
-returns-2 c = rw (c .before .before .put-state2 .ensures) (begun-starts _ _ _ _ _ _ _ _ _ refl (marked-put (c .before .before .before .before .before .before .before .reach .result .state) (starts (c .before) .live)) (put-seeking (c .before .before .before .before .before .before .before .reach .result .state) _) (starts-search _ _ _ [] _ _ [] _ _ (some (c .before .before .before .before .before .before .before .before .before .before .before .before .before)) (starts (c .before))))
+returns-2 c = rw (c .before .before .put-state2 .ensures) (begun-starts _ _ _ _ _ _ _ _ _ refl (put-seeking (c .before .before .before .before .before .before .before .reach .result .state) _) (starts-search _ _ _ [] _ _ [] _ _ (some (c .before .before .before .before .before .before .before .before .before .before .before .before .before)) (starts (c .before))))
 
 returns-3 : tie.Need-returns-3
 returns-3 c =

@@ -18,8 +18,8 @@ use Rattle.fed_states.proofs.Laws.{and-left, and-right}
 use Rattle.fed_bytes.specs.Feed.{took}
 use Rattle.fed.specs.Parts.{restOf}
 use Rattle.fed_pieces.specs.Pieces.{Fits}
-use Rattle.host_fed_states.specs.Places.{stateOf, placesIn, seekingOf}
-use Rattle.host_fed_states.proofs.Laws.{placed}
+use Rattle.host_fed_states.specs.Places.{stateOf, placesIn, flagsPut, seekingOf}
+use Rattle.host_fed_states.proofs.Laws.{flags-placed}
 use Rattle.host_fed_states.proofs.Kept.{rest-same}
 use Rattle.host_fed_records.proofs.Putting.{ran-records, ran-labels}
 use Rattle.host_fed_records.proofs.Walking.{rest-of, within, Got, got, waits, never}
@@ -46,7 +46,7 @@ abbrev tail-of : tie.Start Inv-loop μ-loop → List ℕ
 tail-of c = rest-of (now (c .args .piece)) (c .args .i)
 
 fits : (c : tie.Start Inv-loop μ-loop) → Fits (now (c .args .piece)) (state-of c .limit) (took (state-of c) (c .args .i))
-fits c = c .pre .1 .0
+fits c = c .pre .0
 
 -- the places are numbers
 limit-fits : (c : tie.After-limit-of Inv-loop μ-loop) → c .limit-of .result < 2 ^ 64
@@ -78,14 +78,14 @@ says c r e =
 -- where the walk waits
 returns : tie.Need-returns Inv-loop μ-loop
 returns c =
-    let t = c .before .before .before .before in
+    let t = c .before .before .before .before .before .before in
     let w = t .before .before .before in
     let a = start-of w .args in
     let i = w .loop .inv .0 in
     let k = rest-same (seekingOf (stateOf (now (a .state))) (a .here) (w .loop .since)) (tail-of (start-of w)) (t .t .given .0 .0 .at) in
     walks-waits (state-of (start-of w)) _ _ _ _ _ _ (fits (start-of w)) i _ (waits (state-of (start-of w)) _ _ (fits (start-of w)) _ _ (i .label) (i .more) _ (says (t .before .before) _ (t .t .given .1)))
-    (c .put-rest .ensures ∙ ap (λ (x : List ℕ). placesIn x (restOf (seekingOf (stateOf x) (a .here) (w .loop .since)) (tail-of (start-of w)) (t .t .given .0 .0 .at))) (w .loop .inv .1)
-    ∙ placed (now (a .state)) (start-of w .pre .0) (restOf (seekingOf (stateOf (now (a .state))) (a .here) (w .loop .since)) (tail-of (start-of w)) (t .t .given .0 .0 .at)) (k .limit) (k .known) (k .live)) refl
+    (c .put-flags .ensures ∙ ap flagsPut (c .before .before .put-rest .ensures) ∙ ap (λ (x : List ℕ). flagsPut (placesIn x (restOf (seekingOf (stateOf x) (a .here) (w .loop .since)) (tail-of (start-of w)) (t .t .given .0 .0 .at)))) (w .loop .inv .1)
+    ∙ flags-placed (now (a .state)) (restOf (seekingOf (stateOf (now (a .state))) (a .here) (w .loop .since)) (tail-of (start-of w)) (t .t .given .0 .0 .at)) (k .limit) (k .known) (k .live)) refl
 
 returns-2 : tie.Need-returns-2 Inv-loop μ-loop
 returns-2 c =
@@ -105,7 +105,7 @@ put-next-requires c κs =
     let k = c .before .before in
     let w = loop-of k in
     let i = w .loop .inv .0 in
-    let p = start-of w .pre .1 .1 .1 .1 in
+    let p = start-of w .pre .1 .1 .1 in
     let t = i .room in
     let g = record-got k in
     let x = numbers w (length (tail-of (start-of w))) (omega arith) .stream in
@@ -120,14 +120,14 @@ loop-again c =
 
 returns-3 : tie.Need-returns-3 Inv-loop μ-loop
 returns-3 c =
-    let k = c .before .before .before .before .before .before .before .before .before .before .before .before in
+    let k = c .before .before .before .before .before .before .before .before .before .before .before .before .before .before in
     let w = loop-of k in
     let a = start-of w .args in
-    let e = c .before .before .before .before .before .before .before .before .before .put-next .ensures in
+    let e = c .before .before .before .before .before .before .before .before .before .before .before .put-next .ensures in
     rw (e .0, e .1)
-    (walks-over _ _ _ _ _ _ _ (fits (start-of w)) (w .loop .inv .0) _ _ (record-got k) (λ x y. false≢true (sym (rw (lt-ltb _ _ x, lt-ltb _ _ y) at (c .before .before .before .if1 .left))))
-    (c .put-behind .ensures ∙ ap (λ (x : List ℕ). placesIn x (goneOn (stateOf x) (a .here + k .before .t2 .given .0 .1 .1 .0 .at) (wholeLabel (tail-of (start-of w)) (k .before .t2 .given .0 .0 .at)))) (w .loop .inv .1)
-    ∙ placed (now (a .state)) (start-of w .pre .0) (goneOn (stateOf (now (a .state))) (a .here + k .before .t2 .given .0 .1 .1 .0 .at) (wholeLabel (tail-of (start-of w)) (k .before .t2 .given .0 .0 .at))) refl refl refl) refl)
+    (walks-over _ _ _ _ _ _ _ (fits (start-of w)) (w .loop .inv .0) _ _ (record-got k) (λ x y. false≢true (sym (rw (lt-ltb _ _ x, lt-ltb _ _ y) at (c .before .before .before .before .before .if1 .left))))
+    (c .put-flags2 .ensures ∙ ap flagsPut (c .before .before .put-behind .ensures) ∙ ap (λ (x : List ℕ). flagsPut (placesIn x (goneOn (stateOf x) (a .here + k .before .t2 .given .0 .1 .1 .0 .at) (wholeLabel (tail-of (start-of w)) (k .before .t2 .given .0 .0 .at))))) (w .loop .inv .1)
+    ∙ flags-placed (now (a .state)) (goneOn (stateOf (now (a .state))) (a .here + k .before .t2 .given .0 .1 .1 .0 .at) (wholeLabel (tail-of (start-of w)) (k .before .t2 .given .0 .0 .at))) refl refl refl) refl)
 
 pub walk-spec : {M : Type 1} → statement M
 walk-spec =
@@ -135,14 +135,15 @@ walk-spec =
     (tie.spec
     Inv-loop
     μ-loop
-    (λ c. omega (arith, c .before .before .before .pre .1 .0 .most))
-    (λ c. omega (arith, c .before .before .before .pre .1 .0 .most))
+    (λ c. omega (arith, c .before .before .before .pre .0 .most))
+    (λ c. omega (arith, c .before .before .before .pre .0 .most))
     (λ c. omega arith)
     (λ c κs. search needs)
-    (λ c. let a = c .before .before .before .before .before .before in (walks-start _ _ _ _ _ _ _ (fits a) refl (a .pre .1 .1 .0) (a .pre .1 .1 .1 .0), refl))
+    (λ c. let a = c .before .before .before .before .before .before in (walks-start _ _ _ _ _ _ _ (fits a) refl (a .pre .1 .0) (a .pre .1 .1 .0), refl))
     (λ c. let a = start-of c in omega (arith, within (state-of a) (now (a .args .piece)) (a .args .i) (fits a), c .before .limit-of .ensures))
     (λ c κs. search needs)
     (λ c. search needs)
+    (λ c κs. search needs)
     (λ c κs. search needs)
     (λ c. ran-records _ _ (returns c .ran))
     (λ c. ran-labels _ _ (returns c .ran))
@@ -158,6 +159,7 @@ walk-spec =
     (λ c. let t = loop-of (c .before .before .before .before .before .before .before .before .before) .loop .inv .0 .room in omega arith)
     loop-again
     (λ c. let k = c .before .before .before .before .before .before .before .before .before in omega (arith, numbers (loop-of k) _ (record-got k .most) .piece))
+    (λ c κs. search needs)
     (λ c κs. search needs)
     (λ c. ran-records _ _ (returns-3 c .ran))
     (λ c. ran-labels _ _ (returns-3 c .ran))
