@@ -9,7 +9,6 @@ use lib.Seq.{take-add, take-length, drop-drop}
 use Rattle.parts.specs.Bytes.{Bytes}
 use Rattle.parts.specs.Number.{numberAt}
 use Rattle.labels.specs.Label.{keyAt, labelAt}
-use Rattle.lengths.specs.declared.Field.{Field}
 use Rattle.lengths.specs.declared.Length.{Length}
 use Rattle.lengths.specs.declared.Length.the-variants.{Is, Cut, None}
 use Rattle.lengths.specs.Length.{lengthAt}

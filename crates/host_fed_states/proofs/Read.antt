@@ -8,7 +8,7 @@ use lib.Seq.{take-suc, take-add, take-all, getD-drop}
 use Rattle.parts.specs.Bytes.{Bytes}
 use Rattle.parts.specs.Number.{numberAt}
 use Rattle.host_fed_states.specs.Places.{bytesOf}
-use Rattle.host_fed_states.specs.Read.{Kept, ReadBack}
+use Rattle.host_fed_states.specs.Read.{ReadBack}
 use Rattle.host_fed_states.proofs.Searches.{flag-mark}
 
 -- The bytes of the number that bytes hold are those

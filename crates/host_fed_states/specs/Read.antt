@@ -1,5 +1,4 @@
 -- A host's array carries a state from call to call: what was put is what is read.
-use Prim.Native.Nat.{ℕ}
 use mathlib.Core.Path.{_≡_}
 use lib.ListN.{length}
 use Rattle.parts.specs.Bytes.{Bytes}

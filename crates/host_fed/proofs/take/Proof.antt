@@ -1,5 +1,4 @@
 -- `host_fed::take` meets its contract: the call ends before a search, or by it.
-use mathlib.Core.Path.{_≡_, sym}
 use native.Mathlib.Omega.{arith}
 use denote.Ref.{now}
 use Rattle.host_fed.specs.Places.{Answers}

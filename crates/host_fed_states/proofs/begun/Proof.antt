@@ -1,6 +1,6 @@
 -- `host_fed_states::begun` meets its contract: a law for each return.
 use Prim.Native.Nat.{ℕ, _+_, _≤_}
-use mathlib.Core.Path.{_≡_, sym, ap, _∙_}
+use mathlib.Core.Path.{_≡_, sym, _∙_}
 use mathlib.Core.Bool.{true, _&&_}
 use mathlib.Core.List.{List}
 use native.Mathlib.Omega.{arith}
@@ -10,11 +10,9 @@ use lib.ListN.{length}
 use denote.Ref.{now}
 use Rattle.parts.specs.Bytes.{Bytes}
 use Rattle.labels.specs.Label.{keyAt}
-use Rattle.lengths.specs.declared.Length.{Length}
 use Rattle.fed_states.specs.declared.State.{State}
 use Rattle.fed_states.proofs.Laws.{and-left, and-right}
 use Rattle.host_fed_states.specs.Places.{stateOf}
-use Rattle.host_fed_states.specs.Waited.{valueOf}
 use Rattle.host_fed_states.proofs.Values.{Comes, begun-barred, begun-late, begun-none, begun-value}
 use Rattle.host_fed_states.proofs.Pieces.{length-nine}
 use borrow.Author.Needs.{needs}
