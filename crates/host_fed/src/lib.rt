@@ -160,8 +160,8 @@ fn within(v: Value, state: &mut [u64; 10], piece: &[u8], label: &mut [u8; 16], o
     put_done(state, v.next);
 }
 
-// The first part of a call. Many come to a search without a state being made of the numbers, where the flags are 0 or 1; behind it
-// they are.
+// The first part of a call. Where the flags are 0 or 1, many pieces come to a search without a state being made of the numbers. Where a
+// search is to start the flags are 0 or 1 in any case.
 fn begin(state: &mut [u64; 10], piece: &[u8], label: &mut [u8; 16], out: &mut [u64; 8]) -> Start
     ensures { λ r. ⌜ Begun (stateOf (now (state .entry))) (now (piece .entry)) r (now (state .entry)) (now (label .entry)) (now (out .entry)) (now (state .exit)) (now (label .exit)) (now (out .exit)) ⌝ }
 {

@@ -31,7 +31,7 @@ valueOf limit at have None = nowhere
 unfoldable pub waitedOf : State → ℕ → Value
 waitedOf st n = cond (st .live && leb (st .at + st .have + n) (st .limit)) (cond (leb 25 (st .have)) (valueOf (st .limit) (st .at) (st .have) (lengthOf st)) nowhere) nowhere
 
--- where a piece may come, and starts with a key, with all that is kept of it
+-- where a piece may come, no byte of a key has come before it, and it starts with one, with all that is kept of it
 unfoldable pub begunOf : State → List ℕ → Value
 begunOf st piece =
     cond (st .live && leb (st .at + st .have + length piece) (st .limit))
