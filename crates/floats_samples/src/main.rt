@@ -3,6 +3,9 @@
 // The file `stdout` holds what Rust answers for the same inputs. It was made by a Rust program that takes a kind and an input a, with v the low and h the
 // high 32 bits of a, and prints the bits of the expression that stands at the kind in `sample` below, a NaN's as 7fc00000 or 7ff8000000000000.
 // Among the lines is the unstarred number of docs/RULES.md, 4,294,967,295 to 4,294,967,296.
+#![tactic(auto)]
+
+use std::io::Print;
 
 // Whole numbers and f32 bits: each power's two sides, ties to either side, and some at random.
 const WHOLE: [u64; 65] = [
@@ -161,7 +164,7 @@ fn digit(d: u64) -> u8 {
 }
 
 // Writes a line: the kind, a and r.
-fn line(kind: u8, a: u64, r: u64) {
+fn line(to: &impl Print, kind: u8, a: u64, r: u64) {
     let mut text = [b' '; 36];
     text[0] = kind;
     text[35] = b'\n';
@@ -173,29 +176,29 @@ fn line(kind: u8, a: u64, r: u64) {
         x = x / 16;
         y = y / 16;
     }
-    io::write_all(1, &text);
+    let _ = to.write_all(&text);
 }
 
 // Writes a line for each input.
-fn lines(kind: u8, inputs: &[u64]) {
+fn lines(to: &impl Print, kind: u8, inputs: &[u64]) {
     let mut i = 0;
     while i < inputs.len() {
-        line(kind, inputs[i], sample(kind, inputs[i]));
+        line(to, kind, inputs[i], sample(kind, inputs[i]));
         i += 1;
     }
 }
 
 // Writes the lines of each kind over the same inputs.
-fn table(kinds: &[u8], inputs: &[u64]) {
+fn table(to: &impl Print, kinds: &[u8], inputs: &[u64]) {
     let mut i = 0;
     while i < kinds.len() {
-        lines(kinds[i], inputs);
+        lines(to, kinds[i], inputs);
         i += 1;
     }
 }
 
-fn main() {
-    table(b"wtmiabdo", &WHOLE);
-    table(b"nf", &WIDE);
-    table(b"rsg", &PAIRS);
+fn main(rt: HostRuntime) {
+    table(&rt, b"wtmiabdo", &WHOLE);
+    table(&rt, b"nf", &WIDE);
+    table(&rt, b"rsg", &PAIRS);
 }

@@ -1,8 +1,13 @@
 // Lists the finished walk over standard input, and its tally: docs/RULES.md, "Tally and listing". Above 65,536 bytes it
 // prints only `too long`.
+#![tactic(auto)]
+
 ghost use Rattle.std.specs.Prelude.{◌≡◌, ◌≤◌, length, take};
 ghost use Rattle.io.specs.Counts.{IsPrefixLen};
 ghost use Rattle.listing.specs.Listing.{printed};
+
+use std::io::Print;
+use streams::read_full;
 
 // Room for the listing of 65,536 bytes.
 fn room() -> [u8; 458752]
@@ -22,18 +27,19 @@ fn put_whole(s: &[u8], more: bool, out: &mut [u8]) -> usize
 }
 
 // Writes the listing of the bytes that were read, or `too long` where there are more.
-fn show(s: &[u8], more: bool)
+fn show(to: &impl Print, s: &[u8], more: bool)
     requires { length s.now ≤ 65536 }
 {
     let mut out = room();
     let n = put_whole(s, more, &mut out);
-    io::write_all(1, &out[..n]);
+    let _ = to.write_all(&out[..n]);
 }
 
-fn main() {
+fn main(rt: HostRuntime) {
+    let mut input = rt.stdin();
     let mut buf = io::large_buffer();
-    let n = io::read_full(0, &mut buf);
+    let n = read_full(&mut input, &mut buf);
     let mut one = [0u8; 1];
-    let more = io::read_full(0, &mut one);
-    show(&buf[..n], more > 0);
+    let more = read_full(&mut input, &mut one);
+    show(&rt, &buf[..n], more > 0);
 }

@@ -1,6 +1,6 @@
 -- The end of a walk that closing named. Assumes nothing.
-use Rattle.std.proofs.Common.{◌≡◌, ℕ, ◌+◌, ◌-◌, ◌^◌, ◌<◌, ◌≤◌, Bool, true, false, cond, not, ◌&&◌, ltb, sym, refl, ◌∙◌, arith}
-use Rattle.steps.specs.Told.{ToldAt, found, nothing, refused}
+use Rattle.std.proofs.Common.{◌≡◌, ℕ, ◌+◌, ◌-◌, ◌^◌, ◌<◌, ◌≤◌, Bool, true, false, cond, not, ◌&&◌, ltb, refl, arith}
+use Rattle.steps.specs.Told.{found, refused}
 use Rattle.lengths.specs.declared.Length.{Length}
 use Rattle.lengths.specs.declared.Length.TheVariants.{Is, Cut, None}
 use Rattle.fed_states.specs.declared.State.{State}

@@ -1,5 +1,5 @@
 -- The walk that closing named: its end, which is the end of what came, is a place.
-use Rattle.std.specs.Prelude.{ℕ, ◌+◌, ◌^◌, ◌<◌}
+use Rattle.std.specs.Prelude.{◌+◌, ◌^◌, ◌<◌}
 use Rattle.fed_states.specs.declared.Ending.{Ending}
 use Rattle.fed_states.specs.declared.Ending.TheVariants.{Clean, Again, Refused}
 

@@ -1,9 +1,13 @@
 // Lists what comes on standard input, piece by piece, in constant memory: docs/RULES.md, "L2. A walker fed from the socket".
 //
 //     klvstream [limit N | end N]
+//     klvstream from FILE
 //
-// A record's line is written as soon as its last byte has come. Where a value is missing bytes at the end and the input can be
-// wound back, walking goes on from the value's start.
+// The second is the first on the file itself, for a run that hands over standard input by a pipe. A record's line is written as soon as
+// its last byte has come. Where a value is missing bytes at the end and the input can be wound back, walking goes on from the value's
+// start.
+#![tactic(auto)]
+
 ghost use Rattle.std.specs.Prelude.{◌≡◌, ◌+◌, ◌^◌, ◌<◌, ◌≤◌, length, take};
 ghost use Rattle.io.specs.Counts.{IsPrefixLen};
 ghost use Rattle.fed_text.specs.Lines.{piece_lines};
@@ -14,48 +18,74 @@ use fed_states::{Ending, Shut, State};
 use fed_text::Lines;
 use offsets::{offset_of, place_of};
 use parts::saturating_sub;
+use std::fs;
+use std::fs::File;
+use std::io::{Error, Print, Read, Seek, SeekFrom, Stderr};
+use std::os::unix::fs::FileTypeExt;
+use std::rt::{Env, HostRuntime};
+use streams::{put_failure, read_full, word};
 
-// What the program is asked: at most, or exactly, so many bytes.
-#[derive(Drop)]
+// What the program is asked: at most, or exactly, so many bytes; whether of a file that its second word names.
+#[derive(Clone, Copy)]
 struct Words {
     understood: bool,
+    named: bool,
     known: bool,
     bytes: usize,
 }
 
 // What its words say; none is no limit.
-fn asked() -> Words {
+fn asked(rt: &impl Env) -> Words {
     let wrong = Words {
         understood: false,
+        named: false,
         known: false,
         bytes: 0,
     };
-    let words = os::arg_count();
-    if words == 1 {
+    let mut first = [0u8; 8];
+    let Some(w) = word(rt, 1, &mut first) else {
         return Words {
             understood: true,
+            named: false,
+            known: false,
+            bytes: usize::MAX,
+        };
+    };
+    let mut digits = [0u8; 20];
+    let Some(k) = word(rt, 2, &mut digits) else {
+        return wrong;
+    };
+    let mut more = [0u8; 1];
+    if word(rt, 3, &mut more).is_some() {
+        return wrong;
+    }
+    if check::same(&first[..w], b"from") {
+        return Words {
+            understood: true,
+            named: true,
             known: false,
             bytes: usize::MAX,
         };
     }
-    if words != 3 {
-        return wrong;
-    }
-    let mut word = [0u8; 8];
-    let w = os::arg(1, &mut word);
-    let mut digits = [0u8; 20];
-    let k = os::arg(2, &mut digits);
     let n = decimals::number(&digits[..k]);
     let Decimal::Is(bytes) = n else {
         return wrong;
     };
-    let known = check::same(&word[..w], b"end");
-    let limit = check::same(&word[..w], b"limit");
+    let known = check::same(&first[..w], b"end");
+    let limit = check::same(&first[..w], b"limit");
     Words {
         understood: known || limit,
+        named: false,
         known,
         bytes: bytes as usize,
     }
+}
+
+// Writes the line on a failure to standard error. Where even that fails, nothing more is said.
+fn fail(to: Stderr, what: &[u8], error: &Error) {
+    let mut out = [0u8; 4480];
+    let n = put_failure(&mut out, 0, what, error);
+    let _ = to.write_all(&out[..n]);
 }
 
 // Room for the lines of 65,536 bytes.
@@ -79,7 +109,7 @@ fn wanted(st: State, wound: bool) -> usize
 
 // A walk as it goes: its state, the records so far, the number by which a piece was refused, whether it goes on, and whether the
 // system refused to read or write.
-#[derive(Drop)]
+#[derive(Clone, Copy)]
 struct Walk {
     state: State,
     records: usize,
@@ -118,14 +148,14 @@ fn put_whole(out: &mut [u8], st: State, piece: &[u8]) -> Lines
 }
 
 // Feeds a piece, and writes its lines.
-fn show(w: Walk, piece: &[u8], out: &mut [u8]) -> Walk
+fn show(rt: &HostRuntime, w: Walk, piece: &[u8], out: &mut [u8]) -> Walk
     requires piece_len_bound { length piece.now ≤ 65536 }
     requires in_bounds { 458752 ≤ length out.old }
 {
     let l = put_whole(out, w.state, piece);
     let n = l.at;
-    if !io::write_all(1, &out[..n]) {
-        os::fail(b"standard output");
+    if let Err(e) = rt.write_all(&out[..n]) {
+        fail(rt.stderr(), b"standard output", &e);
         return stopped(w, true);
     }
     let state = l.state;
@@ -139,7 +169,14 @@ fn show(w: Walk, piece: &[u8], out: &mut [u8]) -> Walk
 }
 
 // Reads once, and shows what came.
-fn turn(w: Walk, wound: bool, buf: &mut [u8], out: &mut [u8]) -> Walk
+fn turn<R: Read>(
+    rt: &HostRuntime,
+    w: Walk,
+    wound: bool,
+    input: &mut R,
+    buf: &mut [u8],
+    out: &mut [u8],
+) -> Walk
     requires value { 65536 ≡ length buf.old }
     requires in_bounds { 458752 ≤ length out.old }
 {
@@ -147,21 +184,26 @@ fn turn(w: Walk, wound: bool, buf: &mut [u8], out: &mut [u8]) -> Walk
     if n == 0 {
         return stopped(w, false);
     }
-    let got = libc::read(0, &mut buf[..n]);
-    if got < 0 {
-        os::fail(b"standard input");
-        return stopped(w, true);
+    match input.read(&mut buf[..n]) {
+        Err(e) => {
+            fail(rt.stderr(), b"standard input", &e);
+            stopped(w, true)
+        }
+        Ok(0) => stopped(w, false),
+        Ok(k) => show(rt, w, &buf[..k], out),
     }
-    let k = io::count(got, buf);
-    if k == 0 {
-        return stopped(w, false);
-    }
-    show(w, &buf[..k], out)
 }
 
 // Reads to the end of the input. A proved loop has to end, and nothing says that an input does: so it counts its turns down, from
 // a number that no run uses up.
-fn stream(first: Walk, wound: bool, buf: &mut [u8], out: &mut [u8]) -> Walk
+fn stream<R: Read>(
+    rt: &HostRuntime,
+    first: Walk,
+    wound: bool,
+    input: &mut R,
+    buf: &mut [u8],
+    out: &mut [u8],
+) -> Walk
     requires value { 65536 ≡ length buf.old }
     requires in_bounds { 458752 ≤ length out.old }
 {
@@ -171,7 +213,7 @@ fn stream(first: Walk, wound: bool, buf: &mut [u8], out: &mut [u8]) -> Walk
         if !w.goes {
             return w;
         }
-        w = turn(w, wound, buf, out);
+        w = turn(rt, w, wound, input, buf, out);
         turns -= 1;
     }
     w
@@ -191,20 +233,70 @@ fn put_refusal(out: &mut [u8], records: usize, n: u32) -> usize
     fed_text::put_refusal(out, 0, records, n)
 }
 
-// Winds standard input back to a place behind its start: whether it can be.
-fn wound_back(start: i64, v: usize) -> bool {
+// The place that the system's text on an open file begins with: `pos:`, a tab, and the digits of its first line. -1 where it has none.
+fn place_in(text: &[u8]) -> i64 {
+    if !text.starts_with(b"pos:\t") {
+        return -1;
+    }
+    for i in 5..text.len() {
+        if text[i] == b'\n' {
+            let n = decimals::number(&text[5..i]);
+            let Decimal::Is(place) = n else {
+                return -1;
+            };
+            return offset_of(place as usize);
+        }
+    }
+    -1
+}
+
+// Whether what a path names can be wound back: a file can, and a pipe can't.
+fn winds(rt: &HostRuntime, path: &str) -> bool {
+    match fs::metadata(rt, path) {
+        Ok(found) => {
+            let kind = found.file_type();
+            kind.is_file() | kind.is_block_device()
+        }
+        Err(_) => false,
+    }
+}
+
+// The place at which standard input stands, -1 where it can't be wound back.
+fn start_of(rt: &HostRuntime) -> i64 {
+    if !winds(rt, "/dev/stdin") {
+        return -1;
+    }
+    let Ok(open) = File::open(rt, "/proc/self/fdinfo/0") else {
+        return -1;
+    };
+    let mut said = open;
+    let mut text = [0u8; 64];
+    let n = read_full(&mut said, &mut text);
+    place_in(&text[..n])
+}
+
+// The input that a path names from a place behind its start on, opened once more: where it can be wound back.
+fn wound_back(rt: &HostRuntime, path: &str, start: i64, v: usize) -> Option<File> {
     if start < 0 {
-        return false;
+        return None;
     }
     let s = place_of(start);
     if usize::MAX - s < v {
-        return false;
+        return None;
     }
-    let to = offset_of(s + v);
-    if to < 0 {
-        return false;
+    let to = s + v;
+    if offset_of(to) < 0 {
+        return None;
     }
-    libc::lseek(0, to, libc::SEEK_SET) == to
+    let Ok(open) = File::open(rt, path) else {
+        return None;
+    };
+    let mut input = open;
+    let at = input.seek(SeekFrom::Start(to as u64));
+    match at {
+        Ok(_) => Some(input),
+        Err(_) => None,
+    }
 }
 
 // The walk that closing named, from the value's start v on to the end of what came. Its places are those of the whole.
@@ -231,34 +323,50 @@ fn ending(w: Walk) -> Ending
 }
 
 // Writes the last lines of a walk, but where the system failed.
-fn finish(w: Walk, out: &mut [u8]) {
+fn finish(rt: &HostRuntime, w: Walk, out: &mut [u8]) {
     if w.failed {
         return;
     }
     if w.refusal != 0 {
         let n = put_refusal(out, w.records, w.refusal);
-        io::write_all(1, &out[..n]);
+        let _ = rt.write_all(&out[..n]);
         return;
     }
     let n = put_end(out, w.records, fed_states::close(w.state));
-    io::write_all(1, &out[..n]);
+    let _ = rt.write_all(&out[..n]);
 }
 
 // Lists the input, which starts at a place of its own; from a value that is missing bytes on again, where it can be wound back.
-fn list(st: State, start: i64, buf: &mut [u8], out: &mut [u8])
+fn list<R: Read>(
+    rt: &HostRuntime,
+    st: State,
+    input: &mut R,
+    path: &str,
+    start: i64,
+    buf: &mut [u8],
+    out: &mut [u8],
+)
     requires value { 65536 ≡ length buf.old }
     requires in_bounds { 458752 ≤ length out.old }
 {
-    let w = stream(from(st, 0), false, buf, out);
+    let w = stream(rt, from(st, 0), false, input, buf, out);
     let e = ending(w);
     if let Ending::Again(v, rest) = e {
-        if wound_back(start, v) {
-            let x = stream(from(onward(v, rest), w.records), true, buf, out);
-            finish(x, out);
+        if let Some(file) = wound_back(rt, path, start, v) {
+            let mut again = file;
+            let x = stream(
+                rt,
+                from(onward(v, rest), w.records),
+                true,
+                &mut again,
+                buf,
+                out,
+            );
+            finish(rt, x, out);
             return;
         }
     }
-    finish(w, out);
+    finish(rt, w, out);
 }
 
 // A walk of so many bytes, at most or exactly.
@@ -269,14 +377,51 @@ fn opened(a: Words) -> State {
     fed_states::open_limit(a.bytes)
 }
 
-fn main() {
-    let a = asked();
+// The system's number for a name that is no text.
+const NO_TEXT: i32 = 84;
+
+// Lists the file that the second word names, from its start on.
+fn list_named(rt: &HostRuntime, st: State, buf: &mut [u8], out: &mut [u8])
+    requires value { 65536 ≡ length buf.old }
+    requires in_bounds { 458752 ≤ length out.old }
+{
+    let mut name = io::buffer();
+    let k = word(rt, 2, &mut name).unwrap_or(0);
+    let Ok(path) = str::from_utf8(&name[..k]) else {
+        fail(rt.stderr(), &name[..k], &Error::from_raw_os_error(NO_TEXT));
+        return;
+    };
+    match File::open(rt, path) {
+        Ok(file) => {
+            let mut input = file;
+            let start = if winds(rt, path) { 0 } else { -1 };
+            list(rt, st, &mut input, path, start, buf, out);
+        }
+        Err(e) => fail(rt.stderr(), &name[..k], &e),
+    }
+}
+
+fn main(rt: HostRuntime) {
+    let a = asked(&rt);
     if !a.understood {
-        io::write_all(2, b"klvstream [limit N | end N]\n");
+        let _ = rt.stderr().write_all(b"klvstream [limit N | end N]\n");
         return;
     }
-    let start = libc::lseek(0, 0, libc::SEEK_CUR);
     let mut buf = io::large_buffer();
     let mut out = room();
-    list(opened(a), start, &mut buf, &mut out);
+    if a.named {
+        list_named(&rt, opened(a), &mut buf, &mut out);
+        return;
+    }
+    let start = start_of(&rt);
+    let mut input = rt.stdin();
+    list(
+        &rt,
+        opened(a),
+        &mut input,
+        "/dev/stdin",
+        start,
+        &mut buf,
+        &mut out,
+    );
 }

@@ -1,11 +1,16 @@
 // Writes the outline of standard input: docs/RULES.md, "L4. An outline". Its word is the depth, 8 where there is none. Above
 // 65,536 bytes it prints only `too long`.
+#![tactic(auto)]
+
 ghost use Rattle.std.specs.Prelude.{◌≡◌, ◌≤◌, length, take};
 ghost use Rattle.io.specs.Counts.{IsPrefixLen};
 ghost use Rattle.outline.specs.Printed.{depth_of, printed};
 
 use outline_text::{Outlined, outline_into};
 use parts::saturating_sub;
+use std::io::Print;
+use std::rt::Env;
+use streams::{read_full, word};
 use text::put_all;
 
 // Room for the outline of 65,536 bytes.
@@ -44,29 +49,29 @@ fn put_whole(s: &[u8], more: bool, depth: usize, out: &mut [u8]) -> usize
 }
 
 // Writes the outline of the bytes that were read, or `too long` where there are more.
-fn show(s: &[u8], more: bool, depth: usize)
+fn show(to: &impl Print, s: &[u8], more: bool, depth: usize)
     requires { length s.now ≤ 65536 }
 {
     let mut out = room();
     let n = put_whole(s, more, depth, &mut out);
-    io::write_all(1, &out[..n]);
+    let _ = to.write_all(&out[..n]);
 }
 
 // The depth that is asked for.
-fn asked() -> usize {
-    if os::arg_count() < 2 {
-        return 8;
+fn asked(rt: &impl Env) -> usize {
+    let mut given = [0u8; 2];
+    match word(rt, 1, &mut given) {
+        Some(n) => depth_of(&given[..n]),
+        None => 8,
     }
-    let mut word = [0u8; 2];
-    let n = os::arg(1, &mut word);
-    depth_of(&word[..n])
 }
 
-fn main() {
-    let depth = asked();
+fn main(rt: HostRuntime) {
+    let depth = asked(&rt);
+    let mut input = rt.stdin();
     let mut buf = io::large_buffer();
-    let n = io::read_full(0, &mut buf);
+    let n = read_full(&mut input, &mut buf);
     let mut one = [0u8; 1];
-    let more = io::read_full(0, &mut one);
-    show(&buf[..n], more > 0, depth);
+    let more = read_full(&mut input, &mut one);
+    show(&rt, &buf[..n], more > 0, depth);
 }

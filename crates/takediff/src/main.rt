@@ -4,29 +4,67 @@
 //
 // Both files are fed to ARRI's frame walk in pieces of at most 65,536 bytes, and a frame's element, of at most 8,192, is read for its
 // values. Standard output has the lines of each difference. What goes wrong is said on standard error, and ends the program.
+#![tactic(auto)]
+
 ghost use Rattle.std.specs.Prelude.{◌≡◌, ◌≤◌, length, take};
 ghost use Rattle.io.specs.Counts.{IsPrefixLen};
 ghost use Rattle.takes_text.specs.Lines.{difference_lines};
 
-use offsets::place_of;
+use std::fs::File;
+use std::io::{Error, Print, Seek, SeekFrom, Stderr};
+use std::rt::{Env, Files, HostRuntime};
+use streams::{put_failure, word};
 use takes::{Difference, Met, Side, Takes};
 use tapes::Tape;
 
-// The file that a word names; its number is -1 where it can't be opened.
-fn opened(word: usize) -> Tape {
+// Whether the program was given an i-th word.
+fn given(rt: &HostRuntime, i: usize) -> bool {
+    let mut first = [0u8; 1];
+    word(rt, i, &mut first).is_some()
+}
+
+// Writes the line on a failure to standard error. Where even that fails, nothing more is said.
+fn fail(to: Stderr, what: &[u8], error: &Error) {
+    let mut out = [0u8; 4480];
+    let n = put_failure(&mut out, 0, what, error);
+    let _ = to.write_all(&out[..n]);
+}
+
+// The system's number for a name that is no text.
+const NO_TEXT: i32 = 84;
+
+// Opens the file of a name for reading.
+fn open(rt: &HostRuntime, name: &[u8]) -> std::io::Result<File> {
+    match str::from_utf8(name) {
+        Ok(path) => File::open(rt, path),
+        Err(_) => Err(Error::from_raw_os_error(NO_TEXT)),
+    }
+}
+
+// The place of a file's end.
+fn end_of(file: &File) -> std::io::Result<u64> {
+    let mut f = file;
+    f.seek(SeekFrom::End(0))
+}
+
+// The file that a word names, none where it can't be opened.
+fn opened(rt: &HostRuntime, i: usize) -> Tape {
     let mut name = io::buffer();
-    let k = os::arg(word, &mut name);
-    let fd = os::open_read(&name[..k]);
-    if fd < 0 {
-        os::fail(&name[..k]);
-        return tapes::unread(-1, 0);
+    let k = word(rt, i, &mut name).unwrap_or(0);
+    let file = match open(rt, &name[..k]) {
+        Ok(file) => file,
+        Err(e) => {
+            fail(rt.stderr(), &name[..k], &e);
+            return tapes::unread(None, 0);
+        }
+    };
+    match end_of(&file) {
+        Ok(end) => tapes::unread(Some(file), end as usize),
+        Err(e) => {
+            fail(rt.stderr(), &name[..k], &e);
+            tapes::unread(None, 0)
+        }
     }
-    let end = libc::lseek(fd, 0, libc::SEEK_END);
-    if end < 0 {
-        os::fail(&name[..k]);
-        return tapes::unread(-1, 0);
-    }
-    tapes::unread(fd, place_of(end))
 }
 
 // Puts the whole of a difference's lines at the start of out.
@@ -39,14 +77,16 @@ fn put_whole(out: &mut [u8], d: Difference) -> usize
 }
 
 // Writes a difference's lines: whether they could be.
-fn show(d: Difference) -> bool {
+fn show(rt: &HostRuntime, d: Difference) -> bool {
     let mut out = io::buffer();
     let n = put_whole(&mut out, d);
-    if io::write_all(1, &out[..n]) {
-        return true;
+    match rt.write_all(&out[..n]) {
+        Ok(()) => true,
+        Err(e) => {
+            fail(rt.stderr(), b"standard output", &e);
+            false
+        }
     }
-    os::fail(b"standard output");
-    false
 }
 
 // Where both files go on, and whether they do.
@@ -57,7 +97,7 @@ struct Onward {
 }
 
 // Shows what differs at a number.
-fn meet(t: Takes, x: Side, y: Side) -> Onward {
+fn meet(rt: &HostRuntime, t: Takes, x: Side, y: Side) -> Onward {
     let m = takes::meet(t, x, y);
     match m {
         Met::Same(u) => Onward {
@@ -66,7 +106,7 @@ fn meet(t: Takes, x: Side, y: Side) -> Onward {
         },
         Met::Differs(d, u) => Onward {
             takes: u,
-            goes: show(d),
+            goes: show(rt, d),
         },
         Met::Over => Onward {
             takes: t,
@@ -85,12 +125,12 @@ struct Pair {
 }
 
 // Compares the next number.
-fn number(p: Pair, main: &mut [u8; 65536], backup: &mut [u8; 65536]) -> Pair {
+fn number(rt: &HostRuntime, p: Pair, main: &mut [u8; 65536], backup: &mut [u8; 65536]) -> Pair {
     let first = p.main;
     let second = p.backup;
     let t = p.takes;
-    let x = tapes::next(first, main);
-    let y = tapes::next(second, backup);
+    let x = tapes::next(rt.stderr(), first, main);
+    let y = tapes::next(rt.stderr(), second, backup);
     let a = x.tape;
     let b = y.tape;
     if x.failed | y.failed {
@@ -103,7 +143,7 @@ fn number(p: Pair, main: &mut [u8; 65536], backup: &mut [u8; 65536]) -> Pair {
     }
     let u = x.side;
     let v = y.side;
-    let o = meet(t, u, v);
+    let o = meet(rt, t, u, v);
     let takes = o.takes;
     Pair {
         main: a,
@@ -114,26 +154,26 @@ fn number(p: Pair, main: &mut [u8; 65536], backup: &mut [u8; 65536]) -> Pair {
 }
 
 // Compares two files, number by number.
-fn compare(first: Pair, main: &mut [u8; 65536], backup: &mut [u8; 65536]) {
+fn compare(rt: &HostRuntime, first: Pair, main: &mut [u8; 65536], backup: &mut [u8; 65536]) {
     let mut p = first;
     let mut turns = u64::MAX;
     while turns > 0 {
         if !p.goes {
             return;
         }
-        p = number(p, main, backup);
+        p = number(rt, p, main, backup);
         turns -= 1;
     }
 }
 
-fn main() {
-    if os::arg_count() != 3 {
-        io::write_all(2, b"takediff MAIN BACKUP\n");
+fn main(rt: HostRuntime) {
+    if !given(&rt, 2) | given(&rt, 3) {
+        let _ = rt.stderr().write_all(b"takediff MAIN BACKUP\n");
         return;
     }
-    let a = opened(1);
-    let b = opened(2);
-    let goes = (0 <= a.fd) & (0 <= b.fd);
+    let a = opened(&rt, 1);
+    let b = opened(&rt, 2);
+    let goes = a.file.is_some() & b.file.is_some();
     let first = Pair {
         main: a,
         backup: b,
@@ -146,5 +186,5 @@ fn main() {
     };
     let mut main = io::large_buffer();
     let mut backup = io::large_buffer();
-    compare(first, &mut main, &mut backup);
+    compare(&rt, first, &mut main, &mut backup);
 }

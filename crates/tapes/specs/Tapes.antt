@@ -1,6 +1,7 @@
 -- A recorder's file as it is read: docs/RULES.md, "L14. Two recordings of one take". What the system answers stands for itself: a
 -- contract says what is made of it.
-use Rattle.std.specs.Prelude.{◌≡◌, ℕ, ◌+◌, ◌%◌, ◌^◌, min, Bool, true, false, cond, List, length, ℤ, ◌==◌}
+use Rattle.std.specs.Prelude.{◌≡◌, ℕ, ◌+◌, ◌%◌, ◌^◌, min, Bool, true, false, cond, Option, List, length, ◌==◌}
+use Rattle.std.specs.declared.fs.File.{File}
 use Rattle.fed_states.specs.declared.State.{State}
 use Rattle.frame_walks.specs.declared.Camera.TheVariants as camera
 use Rattle.frame_walks.specs.declared.FrameElement.{FrameElement}
@@ -13,8 +14,8 @@ use Rattle.tapes.specs.declared.Found.{Found}
 use Rattle.tapes.specs.Frames.{read_as}
 
 -- no byte of it has been read, and its walk is ARRI's, up to its size
-abbrev pub unread_of : ℤ → ℕ → Tape
-unread_of fd size = record { fd = fd; size = size; walk = opened_frames camera.Arri size true 0; from = 0; count = 0; stage = stage.Goes }
+abbrev pub unread_of : Option File → ℕ → Tape
+unread_of file size = record { file = file; size = size; walk = opened_frames camera.Arri size true 0; from = 0; count = 0; stage = stage.Goes }
 
 -- the place of the next byte that a walk is fed
 abbrev pub place_of : State → ℕ

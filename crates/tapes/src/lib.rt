@@ -1,6 +1,8 @@
 // One recorder's file, read up to its next frame: docs/RULES.md, "L14. Two recordings of one take". It is fed to ARRI's frame walk in pieces
 // of at most 65,536 bytes. A frame's element is read again by itself, so that it need not stand whole in a piece. What goes wrong is
 // said on standard error.
+#![tactic(auto)]
+
 ghost use Rattle.std.specs.Prelude.{◌≡◌, ◌≤◌, length};
 ghost use Rattle.io.specs.Counts.{IsPrefixLen};
 ghost use Rattle.tapes.specs.Frames.{read_as};
@@ -10,13 +12,16 @@ use arri_values::Values;
 use fed_frames::{FrameAnswer, FrameState};
 use fed_states::State;
 use frame_walks::{Camera, FrameElement};
-use offsets::offset_of;
 use parts::{lesser, saturating_sub};
+use std::fs::File;
+use std::io::{Error, Print, Stderr};
+use std::os::unix::fs::FileExt;
+use streams::put_failure;
 use take_frames::Recorded;
 use takes::{Side, Stop};
 
 // How far the reading of a file has come.
-#[derive(Drop)]
+#[derive(Clone, Copy)]
 pub enum Stage {
     Goes,
     Frame(FrameElement),
@@ -24,10 +29,10 @@ pub enum Stage {
     Failed,
 }
 
-// A recorder's file: its walk, and the bytes of it that are in the room, so many from a place on.
+// A recorder's file, none where it can't be opened: its walk, and the bytes of it that are in the room, so many from a place on.
 #[derive(Drop)]
 pub struct Tape {
-    pub fd: i32,
+    pub file: Option<File>,
     pub size: usize,
     pub walk: FrameState,
     pub from: usize,
@@ -36,11 +41,11 @@ pub struct Tape {
 }
 
 // A file of so many bytes, of which none has been read.
-pub fn unread(fd: i32, size: usize) -> Tape
-    ensures { result ≡ unread_of fd size }
+pub fn unread(file: Option<File>, size: usize) -> Tape
+    ensures { result ≡ unread_of file size }
 {
     Tape {
-        fd,
+        file,
         size,
         walk: fed_frames::open_end(Camera::Arri, size, 0),
         from: 0,
@@ -66,7 +71,7 @@ fn wanted(size: usize, place: usize) -> usize
 // A file whose walk has gone on, with so many bytes in the room.
 fn moved(t: Tape, walk: FrameState, from: usize, count: usize, stage: Stage) -> Tape {
     Tape {
-        fd: t.fd,
+        file: t.file,
         size: t.size,
         walk,
         from,
@@ -75,17 +80,54 @@ fn moved(t: Tape, walk: FrameState, from: usize, count: usize, stage: Stage) -> 
     }
 }
 
-// Reads n bytes from a place on: how many came.
-fn fetch(fd: i32, place: usize, n: usize, room: &mut [u8]) -> usize
+// The system's numbers for a file that is not open, and for a call that went well.
+const NOT_OPEN: i32 = 9;
+
+const WENT_WELL: i32 = 0;
+
+// How many bytes came, and why none did where the system refused.
+#[derive(Drop)]
+struct Fetched {
+    count: usize,
+    trouble: Option<Error>,
+}
+
+// Reads n bytes from a place on.
+fn fetch(file: &Option<File>, place: usize, n: usize, room: &mut [u8]) -> Fetched
     requires { n ≤ length room.old }
-    ensures { IsPrefixLen result room.new }
+    ensures { IsPrefixLen result.count room.new }
 {
-    let got = libc::pread(fd, &mut room[..n], offset_of(place));
-    io::count(got, room)
+    let got = match file {
+        Some(open) => open.read_at(&mut room[..n], place as u64),
+        None => Err(Error::from_raw_os_error(NOT_OPEN)),
+    };
+    match got {
+        Ok(count) => Fetched {
+            count,
+            trouble: None,
+        },
+        Err(e) => Fetched {
+            count: 0,
+            trouble: Some(e),
+        },
+    }
+}
+
+// Writes the line on a failure to standard error. Where even that fails, nothing more is said.
+fn fail(to: Stderr, what: &[u8], error: &Error) {
+    let mut out = [0u8; 512];
+    let n = put_failure(&mut out, 0, what, error);
+    let _ = to.write_all(&out[..n]);
+}
+
+// Says on standard error what failed, and why. Too few bytes of a read that went well are no trouble of the system's.
+fn say(to: Stderr, what: &[u8], trouble: Option<Error>) {
+    let error = trouble.unwrap_or(Error::from_raw_os_error(WENT_WELL));
+    fail(to, what, &error);
 }
 
 // Reads from the place of the next byte on.
-fn fill(t: Tape, buf: &mut [u8]) -> Tape
+fn fill(err: Stderr, t: Tape, buf: &mut [u8]) -> Tape
     requires { 65536 ≡ length buf.old }
 {
     let walk = t.walk;
@@ -93,18 +135,23 @@ fn fill(t: Tape, buf: &mut [u8]) -> Tape
     let p = place(s);
     let n = wanted(t.size, p);
     if n == 0 {
-        return moved(t, walk, t.from, t.count, Stage::Over);
+        let from = t.from;
+        let count = t.count;
+        return moved(t, walk, from, count, Stage::Over);
     }
-    let k = fetch(t.fd, p, n, buf);
+    let got = fetch(&t.file, p, n, buf);
+    let k = got.count;
     if k == 0 {
-        os::fail(b"a file can't be read to its end");
-        return moved(t, walk, t.from, t.count, Stage::Failed);
+        say(err, b"a file can't be read to its end", got.trouble);
+        let from = t.from;
+        let count = t.count;
+        return moved(t, walk, from, count, Stage::Failed);
     }
     moved(t, walk, p, k, Stage::Goes)
 }
 
 // What a call's answer makes of a file.
-fn stage_of(a: FrameAnswer) -> Stage {
+fn stage_of(err: Stderr, a: FrameAnswer) -> Stage {
     match a {
         FrameAnswer::Frame(f, _) => Stage::Frame(f),
         FrameAnswer::Nothing => Stage::Goes,
@@ -112,22 +159,25 @@ fn stage_of(a: FrameAnswer) -> Stage {
         FrameAnswer::Given(_, _) => Stage::Goes,
         // Never: no more is fed than the file's bytes.
         FrameAnswer::Refused(_) => {
-            io::write_all(2, b"a file's walk refuses its bytes\n");
+            let _ = err.write_all(b"a file's walk refuses its bytes\n");
             Stage::Failed
         }
     }
 }
 
 // Feeds the bytes that are in the room, from the i-th on.
-fn feed(t: Tape, buf: &[u8], i: usize) -> Tape {
+fn feed(err: Stderr, t: Tape, buf: &[u8], i: usize) -> Tape {
     let f = fed_frames::feed(t.walk, parts::part(buf, i, saturating_sub(t.count, i)));
     let walk = f.walk;
     let a = f.answer;
-    moved(t, walk, t.from, t.count, stage_of(a))
+    let stage = stage_of(err, a);
+    let from = t.from;
+    let count = t.count;
+    moved(t, walk, from, count, stage)
 }
 
 // Feeds what is in the room of the bytes that come next, or reads them.
-fn turn(t: Tape, buf: &mut [u8]) -> Tape
+fn turn(err: Stderr, t: Tape, buf: &mut [u8]) -> Tape
     requires { 65536 ≡ length buf.old }
 {
     let w = t.walk;
@@ -135,9 +185,9 @@ fn turn(t: Tape, buf: &mut [u8]) -> Tape
     let p = place(s);
     let i = saturating_sub(p, t.from);
     if (t.from <= p) & (i < t.count) {
-        return feed(t, buf, i);
+        return feed(err, t, buf, i);
     }
-    fill(t, buf)
+    fill(err, t, buf)
 }
 
 // Whether a file goes on.
@@ -151,17 +201,17 @@ fn goes(s: Stage) -> bool {
 }
 
 // Takes turns up to the next frame. A proved loop has to end: it counts its turns down, from a number that no run uses up.
-fn wind(first: Tape, buf: &mut [u8]) -> Tape
+fn wind(err: Stderr, first: Tape, buf: &mut [u8]) -> Tape
     requires { 65536 ≡ length buf.old }
 {
-    let mut t = turn(first, buf);
+    let mut t = turn(err, first, buf);
     let mut turns = u64::MAX;
     while turns > 0 {
         let s = t.stage;
         if !goes(s) {
             return t;
         }
-        t = turn(t, buf);
+        t = turn(err, t, buf);
         turns -= 1;
     }
     t
@@ -222,7 +272,7 @@ fn needed(f: FrameElement) -> usize
 }
 
 // Reads a frame's element. The walk stands behind it, and has its label yet.
-fn read(t: Tape, f: FrameElement) -> Found
+fn read(err: Stderr, t: Tape, f: FrameElement) -> Found
     ensures { ReadBy t f result }
 {
     let w = t.walk;
@@ -231,9 +281,10 @@ fn read(t: Tape, f: FrameElement) -> Found
     let k = f.element;
     let n = needed(f);
     let mut element = room();
-    let have = fetch(t.fd, k.value, n, &mut element);
+    let got = fetch(&t.file, k.value, n, &mut element);
+    let have = got.count;
     if have != n {
-        os::fail(b"a frame can't be read");
+        say(err, b"a frame can't be read", got.trouble);
         return none(t, true);
     }
     let recorded = recorded(f, &label, &element[..have]);
@@ -248,13 +299,13 @@ fn read(t: Tape, f: FrameElement) -> Found
 }
 
 // Reads up to the next frame: what a file has at a number.
-pub fn next(first: Tape, buf: &mut [u8; 65536]) -> Found
+pub fn next(err: Stderr, first: Tape, buf: &mut [u8; 65536]) -> Found
     ensures { Finds result }
 {
-    let t = wind(first, buf);
+    let t = wind(err, first, buf);
     let s = t.stage;
     match s {
-        Stage::Frame(f) => read(t, f),
+        Stage::Frame(f) => read(err, t, f),
         Stage::Over => none(t, false),
         Stage::Goes => none(t, true),
         Stage::Failed => none(t, true),

@@ -1,0 +1,8 @@
+-- `klvstream::put_refusal` meets its contract: the place behind a text lies in the room.
+use Rattle.std.proofs.Common.{arith}
+use Rattle.io.proofs.Counting.{prefix_len_of_le}
+use Rattle.text.proofs.Sizes.{put-room}
+use Rattle.klvstream.proofs.put_refusal.Goals as goal
+
+pub returns : goal.returns
+returns c = prefix_len_of_le _ _ (put-room c.put_refusal.ensures (omega arith))
