@@ -1,6 +1,8 @@
 // An ALEXA 35's frame metadata (RDD 55) as a frame's values. The element is a run of sets, and each set a run of items. A
 // set's label is not looked at; of an item's key bytes 0 to 3 and 8 to 13 are. The values are gathered in one pass
 // (`arri_alexa35_values`).
+#![tactic(auto)]
+
 ghost use Rattle.std.specs.Prelude.{◌≡◌};
 ghost use Rattle.arri_alexa35_values.specs.Values.{values_on};
 ghost use Rattle.items.specs.After.{after};

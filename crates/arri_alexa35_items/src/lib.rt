@@ -1,6 +1,8 @@
 // What an item of an ALEXA 35's frame metadata (RDD 55) says, by its number and its value: docs/RULES.md, "Frame values". Distances
 // multiply in f64, then narrow once; an empty whole number is 0; index and balance keep the low 32 bits. A value of another
 // width than its kind's is not usable.
+#![tactic(auto)]
+
 ghost use Rattle.std.specs.Prelude.{◌≡◌};
 ghost use Rattle.arri_alexa35_items.specs.Kinds.{number_in, float_in, positive_in, focal_length_in, effective_in, t_stop_in, metres_of, distance_of, distance_in, rational_in, rate_in, exposure_in, whole_in, low_in, tint_of, density_of};
 

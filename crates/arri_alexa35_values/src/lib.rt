@@ -1,6 +1,8 @@
 // The values of an ALEXA 35's frame, gathered item by item, and the frame that they make: docs/RULES.md, "Frame values". A later
 // item without a usable value erases tilt, roll, both distances, T-stop, focal length, exposure time, exposure index, white
 // balance and ND; it doesn't erase tint, sensor rate, effective focal length or encoders.
+#![tactic(auto)]
+
 ghost use Rattle.std.specs.Prelude.{◌≡◌};
 ghost use Rattle.arri_alexa35_values.specs.Said.{said, distance_or};
 ghost use Rattle.arri_alexa35_values.specs.Values.{orientation_on, lens_on, encoders_on, capture_on, values_on, none, frame_of};
@@ -12,14 +14,14 @@ use arri_alexa35_items::{
 use frame_values::{Distance, Double, Encoders, Factors, Frame, Single, TStop, Whole32, Whole64};
 
 // The camera's position and orientation, set 0c.
-#[derive(Drop)]
+#[derive(Clone, Copy)]
 pub struct Orientation {
     pub tilt: Single,
     pub roll: Single,
 }
 
 // The lens's configuration, set 0d, but for the encoders.
-#[derive(Drop)]
+#[derive(Clone, Copy)]
 pub struct Lens {
     pub metric: Distance,
     pub imperial: Distance,
@@ -29,7 +31,7 @@ pub struct Lens {
 }
 
 // The frame's capture, set 0e.
-#[derive(Drop)]
+#[derive(Clone, Copy)]
 pub struct Capture {
     pub exposure_time: Double,
     pub exposure_index: Whole32,
@@ -40,7 +42,7 @@ pub struct Capture {
 }
 
 // The values so far.
-#[derive(Drop)]
+#[derive(Clone, Copy)]
 pub struct Values {
     pub orientation: Orientation,
     pub lens: Lens,

@@ -2,6 +2,8 @@
 // 1 and a length of 2. In each 88h item a run is read; in each of its `LENS_UNIT_SET` sets the first item 8200h (2-byte
 // lengths) gives its first 256 bytes, if it has them. The first such block is the answer. An item that isn't whole, met
 // before one, or none at all: nothing.
+#![tactic(auto)]
+
 ghost use Rattle.std.specs.Prelude.{◌≡◌, ◌+◌, ◌≤◌, ◌^◌, length};
 ghost use Rattle.klv.specs.Item.{item};
 ghost use Rattle.arri_block.specs.Block.{told, placed_at, first_bytes, in_set, in_run_item, in_run, in_element_item, block_of, bytes_of, Ends};
@@ -15,7 +17,7 @@ const LENS_UNIT_SET: [u8; 16] =
     *b"\x06\x0e\x2b\x34\x02\x53\x01\x01\x0c\x02\x01\x01\x01\x01\x00\x00";
 
 // Where the 256 bytes are.
-#[derive(Drop)]
+#[derive(Clone, Copy)]
 pub enum Block {
     // They start there.
     At(usize),

@@ -1,6 +1,8 @@
 // The dynamic metadata of an ALEXA Mini's or Mini LF's frame, 256 bytes big-endian, as a frame's values: docs/RULES.md,
 // "Frame values". Fields, offsets, sentinels and codes are those of `Frame::of_dynamic`. Thousandths are rounded to an f32
 // and then divided in f32; exposure time and effective focal length are divided in f64.
+#![tactic(auto)]
+
 ghost use Rattle.std.specs.Prelude.{◌≡◌};
 ghost use Rattle.arri_mini.specs.Dynamic.{is_set, is_known, version_of, single_over_thousand, shutter_of, angle_of, t_stop_of, distance_of, factors_of, encoder_at, encoders_of, dynamic_of};
 

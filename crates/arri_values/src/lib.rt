@@ -1,5 +1,7 @@
 // The values of an ARRI frame: docs/RULES.md, "Frame walks" and "Frame values". The element of an ALEXA 35 is read whole,
 // that of an ALEXA Mini for its 256 bytes; a frame that is over-long, or has no such bytes, has no values.
+#![tactic(auto)]
+
 ghost use Rattle.std.specs.Prelude.{◌≡◌};
 ghost use Rattle.arri_values.specs.Values.{mini_of, element_of, values_of};
 
@@ -7,7 +9,7 @@ use arri_block::Block;
 use frame_walks::{Arri, FrameElement};
 
 // A frame's values, or none.
-#[derive(Drop)]
+#[derive(Clone, Copy)]
 pub enum Values {
     Are(frame_values::Frame),
     Nothing,

@@ -1,5 +1,7 @@
 // The fields of Canon's Private Camera Metadata, in six groups, and what a pack makes of each: docs/RULES.md, "Frame
 // values". A pack is the fields' that have its id, and pack 0 is none's; a value of nothing erases nothing.
+#![tactic(auto)]
+
 ghost use Rattle.std.specs.Prelude.{◌≡◌};
 ghost use Rattle.canon_groups.specs.Groups.{after, raws_of, lens_after, modes_after, shutter_after, balance_after, gain_after, ranges_after, no_lens, no_modes, no_shutter, no_balance, no_gain, no_ranges};
 
@@ -9,7 +11,7 @@ use canon_values::{
 };
 
 // A pack: its id, its four bytes, and the numbers of the first, middle and last two and of all.
-#[derive(Drop)]
+#[derive(Clone, Copy)]
 pub struct Pack {
     pub id: u8,
     pub b0: u8,
@@ -23,7 +25,7 @@ pub struct Pack {
 }
 
 // Packs 1, 5, 10 and 16 to 18.
-#[derive(Drop)]
+#[derive(Clone, Copy)]
 pub struct Lens {
     pub focal_length: Value,
     pub electric_zoom: Value,
@@ -36,7 +38,7 @@ pub struct Lens {
 }
 
 // Packs 2, 8 and 20.
-#[derive(Drop)]
+#[derive(Clone, Copy)]
 pub struct Modes {
     pub focus: Value,
     pub stabilizer: Value,
@@ -47,7 +49,7 @@ pub struct Modes {
 }
 
 // Packs 3 and 4.
-#[derive(Drop)]
+#[derive(Clone, Copy)]
 pub struct Shutter {
     pub speed: Value,
     pub mode: Value,
@@ -55,7 +57,7 @@ pub struct Shutter {
 }
 
 // Pack 6.
-#[derive(Drop)]
+#[derive(Clone, Copy)]
 pub struct Balance {
     pub mode: Value,
     pub preset: Value,
@@ -65,7 +67,7 @@ pub struct Balance {
 }
 
 // Packs 7, 9, 11 and 19.
-#[derive(Drop)]
+#[derive(Clone, Copy)]
 pub struct Gain {
     pub mode: Value,
     pub level: Value,
@@ -75,7 +77,7 @@ pub struct Gain {
 }
 
 // Packs 12 to 15.
-#[derive(Drop)]
+#[derive(Clone, Copy)]
 pub struct Ranges {
     pub camera: Value,
     pub base_gamma: Value,

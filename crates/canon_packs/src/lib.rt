@@ -1,5 +1,7 @@
 // Canon's Private Camera Metadata: docs/RULES.md, "Tables inside values". Its first byte is a count; packs of 5 follow, at most that
 // many, a partial one dropped.
+#![tactic(auto)]
+
 ghost use Rattle.std.specs.Prelude.{◌≡◌, ◌+◌, ◌≤◌, length};
 ghost use Rattle.canon_groups.specs.Groups.{raws_of};
 ghost use Rattle.canon_packs.specs.Camera.{pack_at, camera_after, unknown, camera_of};
@@ -12,7 +14,7 @@ use canon_groups::{
 use parts::{four_at, lesser, two_at};
 
 // What a Private Camera Metadata says, a place for each field.
-#[derive(Drop)]
+#[derive(Clone, Copy)]
 pub struct Camera {
     pub lens: Lens,
     pub modes: Modes,

@@ -1,5 +1,7 @@
 // Canon's sequence info: docs/RULES.md, "Tables inside values". Items with 2 and 2; tags 1501h and 1201h are signed and need exactly 8
 // bytes, 3C0Ah and 4401h are the item's bytes; the last one stands.
+#![tactic(auto)]
+
 ghost use Rattle.std.specs.Prelude.{◌≡◌, ◌+◌, ◌≤◌, length};
 ghost use Rattle.canon_sequence.specs.Sequence.{position_after, identifier_after, fields_after, empty, sequence_of};
 
@@ -8,21 +10,21 @@ use klv::Klv;
 use parts::{number_at, two_at};
 
 // A place in the clip.
-#[derive(Drop)]
+#[derive(Clone, Copy)]
 pub enum Position {
     Nothing,
     Is(i64),
 }
 
 // An identifier: the value's bytes of an item.
-#[derive(Drop)]
+#[derive(Clone, Copy)]
 pub enum Identifier {
     Nothing,
     Is(Klv),
 }
 
 // What a sequence info says.
-#[derive(Drop)]
+#[derive(Clone, Copy)]
 pub struct Sequence {
     pub instance_uid: Identifier,
     pub package_uid: Identifier,

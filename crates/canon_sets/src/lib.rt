@@ -1,5 +1,7 @@
 // Canon's package sets: docs/RULES.md, "Tables inside values". A package set's items have a tag of 1 and a length of 2, up to the first
 // not whole; each `PRIVATE_CAMERA_METADATA` value in an 88h item's run is answered in turn.
+#![tactic(auto)]
+
 ghost use Rattle.std.specs.Prelude.{◌≡◌, ◌≤◌, []};
 ghost use Rattle.canon_sets.specs.Package.{values_from, in_run};
 ghost use Rattle.canon_sets.specs.Told.{told, first_of, Turned};
@@ -12,7 +14,7 @@ pub const PRIVATE_CAMERA_METADATA: [u8; 16] =
     *b"\x06\x0e\x2b\x34\x01\x01\x01\x0d\x0e\x15\x00\x01\x00\x01\x00\x00";
 
 // What a turn at a cursor finds.
-#[derive(Drop)]
+#[derive(Clone, Copy)]
 enum Turn {
     // A value, and where its run goes on.
     Value(Klv, usize),
@@ -56,14 +58,14 @@ fn turn_at(s: &[u8], from: usize, end: usize) -> Turn
 }
 
 // Where a package set is read: the place in an item's run, and where that ends and the next item starts. It begins with 0 and 0.
-#[derive(Drop)]
+#[derive(Clone, Copy)]
 pub struct Package {
     pub from: usize,
     pub end: usize,
 }
 
 // What a step finds.
-#[derive(Drop)]
+#[derive(Clone, Copy)]
 pub enum Metadata {
     // A Private Camera Metadata, and the cursor past it.
     Value(Klv, Package),

@@ -1,9 +1,11 @@
 // The values of Canon's packs, each kind of field by a function of its own.
+#![tactic(auto)]
+
 ghost use Rattle.std.specs.Prelude.{◌≡◌};
 ghost use Rattle.canon_values.specs.Values.{tenths, zoom, missing, quotient, aperture, two_bits, whole, balance_mode, balance_preset, line_index, decibels, sensitivity, dynamic_range, offset, flag, iso_mode, put};
 
 // A field's value. The texts are those that don't come from a table of names.
-#[derive(Drop)]
+#[derive(Clone, Copy)]
 pub enum Value {
     Nothing,
     // What a table of names is asked for.

@@ -1,6 +1,6 @@
 -- What a number's text says is the number, digit by digit. Assumes nothing.
-use Prim.Native.Nat.{ℕ, zero, suc, ◌+◌, ◌-◌, ◌*◌, ◌/◌, ◌%◌, ◌^◌, ◌≤◌, ◌<◌}
-use mathlib.Core.Path.{◌≡◌, refl, sym, ap, ◌∙◌}
+use Prim.Native.Nat.{ℕ, zero, suc, ◌+◌, ◌-◌, ◌*◌, ◌/◌, ◌%◌, ◌^◌, ◌<◌}
+use mathlib.Core.Path.{◌≡◌, refl, sym, ◌∙◌}
 use mathlib.Core.List.{List, [], ◌∷◌, ◌++◌}
 use mathlib.Core.Logic.{by_cases}
 use native.Mathlib.Nat.{pow-suc}
@@ -12,7 +12,7 @@ use Rattle.io.specs.Digits.{hex_digit_ascii}
 use Rattle.text.specs.Write.{decimal_up_to, decimal_of}
 use Rattle.decimals.specs.declared.Decimal.{Decimal}
 use Rattle.decimals.specs.declared.Decimal.TheVariants.{Is, Not}
-use Rattle.decimals.specs.Decimal.{digit_more, onward, digits_from, number_in}
+use Rattle.decimals.specs.Decimal.{digit_more, onward, digits_from}
 use Rattle.decimals.specs.Back.{ReadsBack}
 use Rattle.decimals.proofs.Laws.{digit_is, number-some}
 

@@ -1,9 +1,11 @@
 // A number in decimal, as a program's word has it: digits, and a number below 2^64.
+#![tactic(auto)]
+
 ghost use Rattle.std.specs.Prelude.{◌≡◌};
 ghost use Rattle.decimals.specs.Decimal.{digit_more, number_in};
 
 // What a word says.
-#[derive(Drop)]
+#[derive(Clone, Copy)]
 pub enum Decimal {
     Is(u64),
     // No digits, another byte among them, or more than 64 bits hold.

@@ -2,6 +2,8 @@
 // item above 8 bytes is skipped, one too short for its type ignored, and a longer one gives its first bytes. Rates are f64
 // quotients; one that isn't finite is stored as nothing, replacing an earlier one. Tags and order are those of the list in
 // `sony/mxf.rs`.
+#![tactic(auto)]
+
 ghost use Rattle.std.specs.Prelude.{◌≡◌, ◌+◌, ◌≤◌, ◌<◌, length};
 ghost use Rattle.descriptor.specs.Fields.{holds, whole_after, finite_rate, rate_after, area_after, fields_after, no_area, empty};
 ghost use Rattle.descriptor.specs.Descriptor.{told, descriptor_told};
@@ -11,21 +13,21 @@ use klv::Klv;
 use parts::{four_at, number_at, two_at};
 
 // A field that is a whole number.
-#[derive(Drop)]
+#[derive(Clone, Copy)]
 pub enum Whole {
     Nothing,
     Is(u64),
 }
 
 // A field that is a quotient.
-#[derive(Drop)]
+#[derive(Clone, Copy)]
 pub enum Rate {
     Nothing,
     Is(f64),
 }
 
 // A part of the picture: its size and where it begins.
-#[derive(Drop)]
+#[derive(Clone, Copy)]
 pub struct Area {
     pub height: Whole,
     pub width: Whole,
@@ -34,7 +36,7 @@ pub struct Area {
 }
 
 // What a descriptor says, a place for each field.
-#[derive(Drop)]
+#[derive(Clone, Copy)]
 pub struct Descriptor {
     pub duration: Whole,
     pub timecode_base: Whole,
@@ -179,7 +181,7 @@ fn empty() -> Descriptor
 }
 
 // What is said of a set.
-#[derive(Drop)]
+#[derive(Clone, Copy)]
 pub enum Answer {
     Is(Descriptor),
     // An item runs past it: refusal 4.

@@ -1,27 +1,19 @@
 -- Answers in code, by what they say. Assumes nothing.
-use Prim.Native.Nat.{ℕ, suc, ◌+◌, ◌<◌}
-use mathlib.Core.Path.{◌≡◌, refl, sym, ap, ◌∙◌}
+use Prim.Native.Nat.{ℕ}
+use mathlib.Core.Path.{◌≡◌, refl}
 use mathlib.Core.List.{List, [], ◌∷◌}
 use mathlib.Core.Logic.{⊎_elim}
-use native.Mathlib.Numerals.{add-one}
 use native.Mathlib.Omega.{arith}
-use lib.ListN.{length, get_or, drop}
-use lib.Seq.{drop-cons}
 use types.Run.{OneOf}
 use denote.Enum.Declared.{tag_of}
-use Rattle.steps.specs.Told.{ToldAt, found, nothing, refused}
-use Rattle.klv.specs.declared.Klv.{Klv}
+use Rattle.steps.specs.Told.{ToldAt, found, nothing}
 use Rattle.klv.specs.Item.{Item}
 use Rattle.fed_states.specs.declared.State.{State}
 use Rattle.steps.specs.Passed.{Passed}
-use Rattle.fed_bytes.specs.Eat.{eat_of}
-use Rattle.fed_bytes.specs.Feed.{Taken, took, after, up_to, eats}
-use Rattle.fed_bytes.proofs.Laws.{Room, eat_room}
+use Rattle.fed_bytes.specs.Feed.{Taken, after, up_to}
 use Rattle.fed.specs.declared.Answer.{Answer}
 use Rattle.fed.specs.declared.Answer.TheVariants.{Nothing, Record, TooMuch, Closed}
-use Rattle.fed.specs.declared.Eaten.{Eaten}
-use Rattle.fed.specs.declared.Fed.{Fed}
-use Rattle.fed.specs.Told.{answer_told, eaten_told, fed_told}
+use Rattle.fed.specs.Told.{answer_told}
 use Rattle.fed.specs.contracts.Answer.{the_type}
 
 module _ {C D : Type 0} (label : List ℕ) where

@@ -1,4 +1,6 @@
 // The fed walker: docs/RULES.md, "L2. A walker fed from the socket".
+#![tactic(auto)]
+
 ghost use Rattle.std.specs.Prelude.{◌≡◌, false, ◌+◌, ◌-◌, ◌≤◌, ◌<◌, max, length, get_or, drop};
 ghost use Rattle.fed_states.specs.State.{sought, length_of};
 ghost use Rattle.fed_bytes.specs.Eat.{turn_of, turned};
@@ -16,7 +18,7 @@ use parts::{lesser, saturating_sub};
 use walk::{Cursor, Step};
 
 // What a call answers.
-#[derive(Drop)]
+#[derive(Clone, Copy)]
 pub enum Answer {
     // All bytes are taken, and no record is complete.
     Nothing,
@@ -28,7 +30,7 @@ pub enum Answer {
 }
 
 // What feeding a piece comes to.
-#[derive(Drop)]
+#[derive(Clone, Copy)]
 pub struct Fed {
     pub state: State,
     pub taken: usize,
@@ -36,7 +38,7 @@ pub struct Fed {
 }
 
 // What a byte comes to.
-#[derive(Drop)]
+#[derive(Clone, Copy)]
 pub struct Eaten {
     pub state: State,
     pub answer: Answer,

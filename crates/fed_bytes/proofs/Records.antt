@@ -8,7 +8,7 @@ use native.Mathlib.Omega.{arith}
 use native.Mathlib.Decide.{dec_lt}
 use lib.ListN.{length, get_or, set, take, drop, length-set, length-take, get_or-append}
 use lib.Seq.{get_or-set_same, get_or-set_other, get_or-take, get_or-drop, ext_get_or}
-use Rattle.steps.specs.Told.{found, nothing}
+use Rattle.steps.specs.Told.{found}
 use Rattle.parts.proofs.Parts.{part_length, part_byte}
 use Rattle.labels.specs.Label.{key_at, key_start, label_at}
 use Rattle.lengths.specs.declared.Field.{Field}

@@ -1,6 +1,6 @@
 -- A search byte by byte leads where the search in the bytes at once leads. Assumes nothing.
 use Prim.Native.Nat.{ℕ, zero, suc, ◌+◌, ◌-◌, ◌≤◌, ◌<◌}
-use mathlib.Core.Path.{◌≡◌, sym, ap, ap₂, ◌∙◌}
+use mathlib.Core.Path.{◌≡◌, sym, ap₂, ◌∙◌}
 use mathlib.Core.List.{List}
 use mathlib.Core.Bool.{true, false, cond, and-false}
 use mathlib.Core.Logic.{by_cases, ⊎_elim}
@@ -15,7 +15,7 @@ use Rattle.steps.specs.Told.{ToldAt, nothing}
 use Rattle.labels.specs.Label.{key_at, key_start}
 use Rattle.labels.proofs.Beginnings.{begins_so}
 use Rattle.search.specs.Search.{key_before, search_from, key_begins, wait_from}
-use Rattle.search.proofs.Laws.{skips, search_end, search_here, search_next, search_up, below_up, key_here, key-next, key-none, key-within, begins_late}
+use Rattle.search.proofs.Laws.{skips, search_end, search_here, search_next, below_up, key_here, key-next, key-none, key-within, begins_late}
 use Rattle.search.proofs.Found.{search_most, search_passed, search_holds, key-room}
 use Rattle.klv.specs.Item.{Item}
 use Rattle.fed_states.specs.declared.State.{State}

@@ -1,28 +1,26 @@
 -- Where the walk's step over the bytes of a piece leads is where they lead byte by byte. Assumes nothing.
 use Prim.Native.Nat.{ℕ, zero, suc, ◌+◌, ◌-◌, ◌≤◌, ◌<◌}
-use mathlib.Core.Path.{◌≡◌, refl, sym, ap, subst, ◌∙◌}
+use mathlib.Core.Path.{◌≡◌, refl, ◌∙◌}
 use mathlib.Core.List.{List}
 use mathlib.Core.Logic.{by_cases}
 use native.Mathlib.Omega.{arith}
 use native.Mathlib.Decide.{dec_lt}
 use lib.ListN.{length}
-use Rattle.steps.specs.Told.{ToldAt, Told, found, nothing, refused}
+use Rattle.steps.specs.Told.{ToldAt, found, nothing}
 use Rattle.labels.specs.Label.{label_at}
-use Rattle.lengths.specs.declared.Field.{Field}
 use Rattle.lengths.proofs.Laws.{taken}
 use Rattle.search.specs.Search.{search_from, key_begins, wait_from}
 use Rattle.search.proofs.Found.{search_most}
 use Rattle.klv.specs.declared.Klv.{Klv}
-use Rattle.klv.specs.Item.{klv, past, Item, item}
+use Rattle.klv.specs.Item.{klv, past, Item}
 use Rattle.walk.specs.declared.Turn.{Turn}
-use Rattle.walk.specs.declared.Turn.TheVariants.{Stop, Search, Record}
+use Rattle.walk.specs.declared.Turn.TheVariants.{Stop, Search}
 use Rattle.walk.specs.declared.Walked.{Walked}
 use Rattle.walk.specs.declared.Walked.TheVariants.{Found, Stopped, Lost}
 use Rattle.walk.specs.Rules.{rules}
-use Rattle.walk.specs.Walk.{walked, arriving_after, arriving_by, stepped, arriving_step}
+use Rattle.walk.specs.Walk.{walked}
 use Rattle.walk.proofs.Laws.{Rule, at-end, no_key, cut_off, no_length, whole, waits, late, rule}
 use Rattle.walk.proofs.Walking.{up, walk_stop, walk_record, walk_on, walk_lost}
-use Rattle.walk.proofs.Answers.{arriving-within}
 use Rattle.fed_states.specs.declared.State.{State}
 use Rattle.fed_states.specs.State.{gone_on}
 use Rattle.steps.specs.Passed.{Passed}

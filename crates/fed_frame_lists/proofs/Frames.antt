@@ -1,23 +1,22 @@
 -- The list of a frame walk that is fed, and what closing says. Assumes nothing.
-use Prim.Native.Nat.{ℕ, zero, suc, ◌+◌, ◌-◌, ◌≤◌, ◌<◌, max}
+use Prim.Native.Nat.{ℕ, zero, suc, ◌+◌, ◌-◌, ◌≤◌, max}
 use mathlib.Core.Path.{◌≡◌, refl, sym, ap, ◌∙◌}
 use mathlib.Core.List.{List, [], ◌∷◌, ◌++◌, map, append-nil}
-use mathlib.Core.Bool.{Bool, true, false, cond, ◌&&◌, ◌||◌}
+use mathlib.Core.Bool.{Bool, true, false, cond, ◌&&◌}
 use mathlib.Core.Logic.{by_cases}
 use native.Mathlib.Omega.{arith}
 use native.Mathlib.Decide.{dec_lt}
 use borrow.Author.Tests.{lt-ltb, le-ltb}
 use lib.ListN.{length, take, drop, length-drop}
 use lib.Dec.{ltb}
-use Rattle.steps.specs.Told.{ToldAt, found, nothing, refused}
-use Rattle.steps.specs.Tells.{Said, saying as said, told_from, state_after}
+use Rattle.steps.specs.Told.{found, nothing, refused}
+use Rattle.steps.specs.Tells.{saying as said, told_from, state_after}
 use Rattle.steps.specs.Passed.{Passed}
 use Rattle.steps.proofs.Tells.{told-append}
 use Rattle.parts.specs.Answer.{Answer, is, none}
 use Rattle.klv.specs.declared.Klv.{Klv}
 use Rattle.klv.specs.Item.{past, Item}
 use Rattle.records.specs.Records.{finished_list_by, arriving_list_by}
-use Rattle.fed_states.specs.declared.State.{State}
 use Rattle.fed_states.specs.Close.{close_of}
 use Rattle.fed_bytes.specs.Feed.{after}
 use Rattle.fed_pieces.specs.Pieces.{refusal_of}
@@ -31,14 +30,14 @@ use Rattle.frame_walks.specs.declared.Camera.{Camera}
 use Rattle.frame_walks.specs.declared.Kind.{Kind}
 use Rattle.frame_walks.specs.declared.Kind.TheVariants as kinds
 use Rattle.frame_walks.specs.Kinds.{kind, over_long, goes_on_at}
-use Rattle.frame_walks.specs.Frames.{Carried, carried, Shown, framed, given, frame, after as next-number, showing_as, showing}
+use Rattle.frame_walks.specs.Frames.{carried, Shown, framed, given, frame, after as next-number, showing_as, showing}
 use Rattle.frame_walks.proofs.Laws.{goes-onward}
-use Rattle.frame_lists.specs.Steps.{frames_from, arriving_frames}
+use Rattle.frame_lists.specs.Steps.{arriving_frames}
 use Rattle.frame_lists.proofs.Certain.{certain_frames}
 use Rattle.fed_frames.specs.declared.FrameState.{FrameState}
-use Rattle.fed_frames.specs.Frames.{FrameTaken, took_frames, FramesTold, opened_frames, carried_by, place_of, standing, frames_at_most, higher, raised, by_refusal, feed_frames, closed_by, close_frames}
+use Rattle.fed_frames.specs.Frames.{took_frames, FramesTold, carried_by, place_of, frames_at_most, higher, raised, by_refusal, feed_frames, closed_by, close_frames}
 use Rattle.fed_frame_lists.specs.Run.{Agrees, joined, Ran, opening, feeding, first, closing, shown, moved_shown}
-use Rattle.fed_frame_lists.specs.Frames.{ListOf, FedFrames, awaited_by, FramesClose, FramesClean, Completes, FramesAgain}
+use Rattle.fed_frame_lists.specs.Frames.{FedFrames, awaited_by, FramesClose, FramesClean, FramesAgain}
 use Rattle.fed_frame_lists.proofs.Joined.{come-none, come-length}
 use Rattle.fed_frame_lists.proofs.Standing.{goes-most, Stands, Knows, Came, frames_come}
 

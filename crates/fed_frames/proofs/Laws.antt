@@ -1,5 +1,5 @@
 -- What a record is to a frame walk that is fed, and that a record's last byte leaves the walk of records behind it. Assumes nothing.
-use Rattle.std.proofs.Common.{◌≡◌, ℕ, ◌+◌, ◌-◌, ◌<◌, ◌≤◌, Bool, true, false, cond, ltb, List, [], ◌∷◌, sym, refl, ap, ◌∙◌, arith, le-ltb, lt-ltb}
+use Rattle.std.proofs.Common.{◌≡◌, ℕ, ◌+◌, ◌-◌, ◌<◌, ◌≤◌, Bool, true, false, cond, ltb, List, [], ◌∷◌, refl, ap, ◌∙◌, arith, le-ltb, lt-ltb}
 use Rattle.steps.specs.Told.{ToldAt, found, nothing, refused}
 use Rattle.steps.specs.Passed.{Passed}
 use Rattle.klv.specs.Item.{Item, past}
@@ -8,7 +8,7 @@ use Rattle.fed_states.specs.declared.Ending.{Ending}
 use Rattle.fed_states.specs.declared.Ending.TheVariants as ending
 use Rattle.fed_states.specs.State.{gone_on}
 use Rattle.fed_states.specs.Close as records
-use Rattle.fed_states.specs.Close.{Rest, close_of}
+use Rattle.fed_states.specs.Close.{close_of}
 use Rattle.fed_bytes.specs.Eat.{behind, eat_of}
 use Rattle.fed_bytes.specs.Feed.{Taken, up_to, eats}
 use Rattle.fed_bytes.proofs.Laws.{Turned, cut, none, whole, waits, late, Ate, seeks, labels, turns, ate}

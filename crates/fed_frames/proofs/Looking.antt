@@ -1,14 +1,14 @@
 -- A call goes on from what it makes of one record. Assumes nothing.
-use Rattle.std.proofs.Common.{◌≡◌, ℕ, zero, suc, ◌+◌, ◌-◌, ◌<◌, ◌≤◌, max, true, false, List, length, drop, sym, refl, ap, ◌∙◌, arith}
+use Rattle.std.proofs.Common.{◌≡◌, ℕ, zero, suc, ◌+◌, ◌-◌, ◌<◌, max, true, false, List, length, drop, sym, refl, ap, ◌∙◌, arith}
 use Rattle.steps.specs.Told.{ToldAt, found, nothing, refused}
 use Rattle.steps.specs.Tells.{Said, tells, passes}
 use Rattle.steps.specs.Passed.{Passed}
 use Rattle.klv.specs.Item.{Item, past}
 use Rattle.fed_states.specs.declared.State.{State}
-use Rattle.fed_bytes.specs.Feed.{Taken, took, eats}
+use Rattle.fed_bytes.specs.Feed.{Taken, took}
 use Rattle.fed_pieces.specs.Pieces.{refusal_of, feed_on, Fits}
 use Rattle.fed_pieces.proofs.Laws as pieces
-use Rattle.fed_pieces.proofs.Laws.{feeds, fed, fed_record, fed-all}
+use Rattle.fed_pieces.proofs.Laws.{feeds, fed}
 use Rattle.fed_pieces.proofs.Going.{Rests}
 use Rattle.fed_pieces.proofs.Told.{further}
 use Rattle.frame_walks.specs.Frames.{Carried, Shown, showing}
@@ -44,6 +44,7 @@ module _ (w : FrameState) (piece : List ℕ) (i from : ℕ) (fits : Fits piece w
       go : (t : ToldAt Taken (Passed Item)) → pieces.Fed piece w.state.limit (took w.state i) t → Rests t (took s n) → nothing (took_frames (up_to w s high) n) ≡ raised from (on_fed again w t)
       go (found a q) f x = absurd x
       go (nothing q) f x = rw (h, x)
+      go (refused _ _) f x = elim f [ ]
 
   -- a record: what is shown is the answer, another record is run through
   pub leads_record : (x : Passed Item) (s : State) (n high : ℕ) → high ≡ max w.high (from + n) → step ≡ found x (took s n) → (said : Said Carried (Passed Shown))

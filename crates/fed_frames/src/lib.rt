@@ -1,6 +1,8 @@
 // A camera's frames out of a fed walker: docs/RULES.md, "L13. Certain frames". A call takes the piece up to the byte that completes a
 // frame, and runs through other records. After an over-long frame the walk stands at its value's start, and the bytes from there
 // on come again.
+#![tactic(auto)]
+
 ghost use Rattle.std.specs.Prelude.{◌≡◌, ◌+◌, ◌≤◌, max, true, false, length};
 ghost use Rattle.klv.specs.Item.{past};
 ghost use Rattle.fed_bytes.specs.Feed.{took};
@@ -16,7 +18,7 @@ use frame_walks::{Camera, FrameElement, Kind, kind_of, longest_of};
 use klv::Klv;
 use parts::saturating_sub;
 
-#[derive(Drop)]
+#[derive(Clone, Copy)]
 pub struct FrameState {
     // The walk of records.
     pub state: State,
@@ -52,7 +54,7 @@ pub fn open_end(camera: Camera, end: usize, number: u64) -> FrameState
 }
 
 // What a call answers.
-#[derive(Drop)]
+#[derive(Clone, Copy)]
 pub enum FrameAnswer {
     // All bytes are taken, and no frame is complete.
     Nothing,
@@ -65,7 +67,7 @@ pub enum FrameAnswer {
 }
 
 // What feeding a piece comes to. The next byte is the one at the place where the walk of records then stands.
-#[derive(Drop)]
+#[derive(Clone, Copy)]
 pub struct FedFrames {
     pub walk: FrameState,
     pub taken: usize,
@@ -73,7 +75,7 @@ pub struct FedFrames {
 }
 
 // What a walk makes of the rest of a piece up to a record: the call's answer, or the record is run through.
-#[derive(Drop)]
+#[derive(Clone, Copy)]
 pub struct Looked {
     pub fed: FedFrames,
     pub over: bool,
@@ -219,7 +221,7 @@ pub fn feed(w: FrameState, piece: &[u8]) -> FedFrames
 }
 
 // What closing comes to.
-#[derive(Drop)]
+#[derive(Clone, Copy)]
 pub struct ShutFrames {
     pub walk: FrameState,
     pub ending: Ending,

@@ -1,4 +1,6 @@
 // The fed walker on a state that the host lends, which each call updates: docs/RULES.md, "L2. A walker fed from the socket".
+#![tactic(auto)]
+
 ghost use Rattle.std.specs.Prelude.{◌≡◌};
 ghost use Rattle.fed_states.specs.Close.{ending_told, close_of};
 ghost use Rattle.fed_bytes.specs.Feed.{feed_of};

@@ -8,7 +8,7 @@ use native.Mathlib.Omega.{arith}
 use native.Mathlib.Decide.{dec_lt}
 use lib.ListN.{length}
 use Rattle.steps.specs.Told.{ToldAt, found, nothing, refused}
-use Rattle.steps.specs.Tells.{Said, tells, saying as said, told_from, state_of, state_after}
+use Rattle.steps.specs.Tells.{saying as said, told_from, state_of, state_after}
 use Rattle.steps.proofs.Tells.{told-append}
 use Rattle.klv.specs.Item.{Item}
 use Rattle.walk.specs.Walk.{stepped}

@@ -10,9 +10,8 @@ use lib.ListN.{length, get_or, length-append, get_or-append}
 use Rattle.steps.specs.Told.{ToldAt, found, nothing, refused}
 use Rattle.labels.specs.Label.{key_at, key_start}
 use Rattle.lengths.specs.declared.Field.{Field}
-use Rattle.lengths.specs.declared.Length.TheVariants.{Is, Cut, None}
-use Rattle.klv.specs.declared.Klv.{Klv}
-use Rattle.klv.specs.Item.{klv, past, Item, item}
+use Rattle.lengths.specs.declared.Length.TheVariants.{Is, None}
+use Rattle.klv.specs.Item.{klv, past, Item}
 use Rattle.walk.specs.declared.Turn.TheVariants.{Stop}
 use Rattle.walk.specs.Rules.{rules}
 use Rattle.walk.proofs.Laws.{rule_end, rule_cut, rule_none, rule_record, rule_wait, rule_late}
@@ -23,7 +22,7 @@ use Rattle.fed_states.specs.declared.State.{State}
 use Rattle.fed_states.specs.State.{opened, sought, gone_on, length_of, sound_of}
 use Rattle.fed_states.proofs.Laws.{come, sound_within}
 use Rattle.steps.specs.Passed.{Passed}
-use Rattle.fed_bytes.specs.Eat.{seek_of, labelled, behind, told_of, eat_of}
+use Rattle.fed_bytes.specs.Eat.{seek_of, labelled, behind, eat_of}
 use Rattle.fed_bytes.specs.Feed.{after}
 use Rattle.fed_bytes.proofs.Laws.{eq_or, seek_next, seek_first, seek_none, seek_most, Turned, cut, none, whole, waits, late, Resting, for_length, for_value, Ate, seeks, labels, turns, ate}
 use Rattle.fed_bytes.proofs.Keys.{key_differs, later_byte}

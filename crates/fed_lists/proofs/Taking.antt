@@ -16,7 +16,7 @@ use Rattle.fed_states.specs.State.{sound_of}
 use Rattle.fed_states.proofs.Laws.{sound_shut, close-refused}
 use Rattle.steps.specs.Passed.{Passed}
 use Rattle.fed_bytes.specs.Eat.{eat_of}
-use Rattle.fed_bytes.specs.Feed.{Taken, took, after, up_to, eats, feed_of}
+use Rattle.fed_bytes.specs.Feed.{Taken, took, after, up_to, eats}
 use Rattle.fed_bytes.proofs.Laws.{feed_closed, feed_past, feed_eats}
 use Rattle.fed_lists.specs.Run.{records}
 use Rattle.fed_lists.specs.Fed.{FedTakes, FedClosed, FedRefused}

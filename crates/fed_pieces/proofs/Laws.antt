@@ -1,6 +1,6 @@
 -- What is left of a piece behind a record is never refused, and all of a piece is taken in the end. Assumes nothing.
 use Prim.Native.Nat.{ℕ, zero, suc, ◌+◌, ◌-◌, ◌≤◌, ◌<◌}
-use mathlib.Core.Path.{◌≡◌, refl, sym, ap, ◌∙◌}
+use mathlib.Core.Path.{◌≡◌, refl, ap, ◌∙◌}
 use mathlib.Core.List.{List, [], ◌∷◌}
 use mathlib.Core.Bool.{Bool, true, false, cond}
 use native.Mathlib.Omega.{arith}
@@ -13,7 +13,7 @@ use Rattle.steps.specs.Listed.{before, at_most, onward, end_at_most}
 use Rattle.klv.specs.Item.{Item}
 use Rattle.fed_states.specs.declared.State.{State}
 use Rattle.fed_states.specs.State.{sought, gone_on, sound_of}
-use Rattle.fed_states.proofs.Laws.{Sound, sound_tells, sound_within}
+use Rattle.fed_states.proofs.Laws.{sound_tells, sound_within}
 use Rattle.fed_bytes.specs.Eat.{behind as kept, labelled, eat_of}
 use Rattle.fed_bytes.specs.Feed.{Taken, took, after, up_to, eats, feed_of}
 use Rattle.fed_bytes.proofs.Laws.{Room, eat_room, seek_most, Turned, cut, none, whole, waits, late, Ate, seeks, labels, turns, ate, feed_eats}
@@ -71,6 +71,7 @@ came limit st (b ∷ l) n g = go (eat_of st b) (left st b) (eat_room limit (leng
         → Came limit st (b ∷ l) n (up_to (λ s. eats s l (n + 1)) (n + 1) t)
     go (found a s) (record_left h z u) g ih = record_came {s = s} {m = n + 1} (omega arith) (omega arith) (omega arith) z u (record { same = g.same; fits = omega (arith, g.fits) })
     go (nothing s) (bytes_left h v) g ih = further s h v _ (ih s g)
+    go (refused _ _) x g ih = elim x [ ]
 
 -- What is left of a piece: where it fits, feeding it is taking its bytes
 module _ (piece : List ℕ) where

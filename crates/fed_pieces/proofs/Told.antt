@@ -7,7 +7,7 @@ use native.Mathlib.Omega.{arith}
 use lib.ListN.{length, take, drop}
 use types.Run.{OneOf}
 use denote.Enum.Declared.{tag_of}
-use Rattle.steps.specs.Told.{ToldAt, found, nothing, refused}
+use Rattle.steps.specs.Told.{found}
 use Rattle.steps.specs.Passed.{Passed}
 use Rattle.parts.proofs.Parts.{part_rest}
 use Rattle.klv.specs.declared.Klv.{Klv}
@@ -56,6 +56,8 @@ module _ (piece : List ℕ) (s : State) (i : ℕ) (f : Fed) (is : fed_told f ≡
       go : (a : Answer) → pieces.Fed piece limit (took s i) (behind i (answer_told f.state.label (took f.state f.taken) a)) → i + f.taken ≤ length piece
       go (Record k n) (fed_record x y z g) = g.most
       go Nothing (fed-all e g) = g.most
+      go TooMuch x = elim x [ ]
+      go Closed x = elim x [ ]
 
 -- a record, behind which what is left of the piece fits
 pub record Further (piece : List ℕ) (limit : ℕ) (k q : Taken) : Type 0 where

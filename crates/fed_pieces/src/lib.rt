@@ -1,4 +1,6 @@
 // The records of a piece: docs/RULES.md, "L2. A walker fed from the socket". What a call did not take of a piece is fed at once.
+#![tactic(auto)]
+
 ghost use Rattle.std.specs.Prelude.{◌≡◌};
 ghost use Rattle.fed_pieces.specs.Pieces.{refusal_of};
 

@@ -1,6 +1,6 @@
 -- Laws of the definitions of `specs/`. Assumes nothing.
-use Prim.Native.Nat.{ℕ, ◌+◌, ◌-◌, ◌≤◌, ◌<◌, min}
-use mathlib.Core.Path.{◌≡◌, refl, ap, ◌∙◌}
+use Prim.Native.Nat.{ℕ, ◌+◌, ◌-◌, ◌≤◌, ◌<◌}
+use mathlib.Core.Path.{◌≡◌, refl}
 use mathlib.Core.Bool.{Bool, true, false, ◌&&◌, false≢true}
 use mathlib.Core.Logic.{by_cases, ◌⊎◌, ⊎_elim}
 use native.Mathlib.Decide.{dec_lt}
@@ -9,12 +9,11 @@ use mathlib.Core.List.{List}
 use lib.ListN.{length, take, replicate, length-take}
 use lib.Dec.{leb}
 use borrow.Author.Tests.{le-ltb, lt-ltb, le-leb, lt-leb, leb-true}
-use Rattle.steps.specs.Told.{ToldAt, found, nothing, refused}
+use Rattle.steps.specs.Told.{found, nothing, refused}
 use Rattle.labels.specs.Label.{label_at}
 use Rattle.lengths.specs.declared.Field.{Field}
 use Rattle.lengths.specs.declared.Length.{Length}
 use Rattle.lengths.specs.declared.Length.TheVariants.{Is, Cut, None}
-use Rattle.lengths.specs.Length.{length_at}
 use Rattle.lengths.proofs.Laws.{taken}
 use Rattle.fed_states.specs.declared.State.{State}
 use Rattle.fed_states.specs.declared.Shut.{Shut}

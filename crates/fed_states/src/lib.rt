@@ -1,5 +1,7 @@
 // A fed walker's state, which the host lends: docs/RULES.md, "L2. A walker fed from the socket". It is opened, goes from piece to
 // piece and is closed. Of the bytes that came it keeps no more than a label and the bytes of a length.
+#![tactic(auto)]
+
 ghost use Rattle.std.specs.Prelude.{◌≡◌, true, false, ◌+◌, ◌≤◌};
 ghost use Rattle.fed_states.specs.State.{opened, sought, gone_on, shut, whole_label, length_of, sound_of};
 ghost use Rattle.fed_states.specs.Close.{ending_told, shut_told, ends_by, close_of};
@@ -7,7 +9,7 @@ ghost use Rattle.fed_states.specs.Close.{ending_told, shut_told, ends_by, close_
 use lengths::Length;
 use parts::saturating_sub;
 
-#[derive(Drop)]
+#[derive(Clone, Copy)]
 pub struct State {
     // How many bytes may come.
     pub limit: usize,
@@ -129,7 +131,7 @@ pub fn sound(st: State) -> bool
 }
 
 // What closing says.
-#[derive(Drop)]
+#[derive(Clone, Copy)]
 pub enum Ending {
     // The finished list of the bytes that came is out.
     Clean,
@@ -140,7 +142,7 @@ pub enum Ending {
 }
 
 // What closing comes to.
-#[derive(Drop)]
+#[derive(Clone, Copy)]
 pub struct Shut {
     pub state: State,
     pub ending: Ending,

@@ -1,8 +1,8 @@
 -- How long the lines of a piece are: a record is completed at least 17 bytes behind the one before it and its line has 117
 -- characters at most, so those of 65,536 bytes fit 458,752. Assumes nothing.
-use Prim.Native.Nat.{ℕ, zero, suc, ◌+◌, ◌-◌, ◌*◌, ◌≤◌, ◌<◌, min}
+use Prim.Native.Nat.{ℕ, zero, suc, ◌+◌, ◌-◌, ◌*◌, ◌≤◌, min}
 use mathlib.Core.Path.{◌≡◌, refl, sym, ap, ◌∙◌}
-use mathlib.Core.List.{List, [], ◌∷◌, ◌++◌}
+use mathlib.Core.List.{List, [], ◌∷◌}
 use mathlib.Core.Logic.{⊎_elim}
 use native.Mathlib.Omega.{arith}
 use lib.ListN.{length, take, drop, length-set, length-append}
@@ -19,8 +19,8 @@ use Rattle.fed_bytes.specs.Eat.{behind as kept, eat_of}
 use Rattle.fed_bytes.specs.Feed.{Taken, took, up_to, eats}
 use Rattle.fed_bytes.proofs.Laws as bytes
 use Rattle.fed_bytes.proofs.Laws.{eq_or, Turned, cut, none, waits, late, Ate, seeks, labels, turns, ate}
-use Rattle.fed_pieces.specs.Pieces.{all, refusal_of, feed_on, records_of, Fits}
-use Rattle.fed_pieces.proofs.Laws.{Fed, fed_record, fed-all, fed, feeds, taken-fits, refused_none}
+use Rattle.fed_pieces.specs.Pieces.{all, refusal_of, feed_on, Fits}
+use Rattle.fed_pieces.proofs.Laws.{Fed, fed_record, fed, feeds, taken-fits, refused_none}
 use Rattle.fed_text.specs.Lines.{piece_lines}
 
 -- A label has 16 bytes, the state's and a record's

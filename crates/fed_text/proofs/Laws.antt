@@ -1,12 +1,11 @@
 -- The lines of a piece: what is put, and then the lines of what is left, is the whole. Assumes nothing.
-use Prim.Native.Nat.{ℕ, zero, suc, ◌+◌, ◌-◌, ◌≤◌, ◌<◌}
+use Prim.Native.Nat.{ℕ, suc, ◌+◌, ◌-◌, ◌≤◌, ◌<◌}
 use mathlib.Core.Path.{◌≡◌, refl, sym, ap, ◌∙◌}
 use mathlib.Core.List.{List, [], ◌∷◌, ◌++◌, append_assoc, append-nil}
 use native.Mathlib.Omega.{arith}
 use lib.ListN.{length, length-append}
-use Rattle.steps.specs.Told.{ToldAt, found, nothing, refused}
+use Rattle.steps.specs.Told.{found}
 use Rattle.steps.specs.Passed.{Passed}
-use Rattle.steps.specs.Listed.{at_most, end_at_most}
 use Rattle.klv.specs.Item.{Item}
 use Rattle.text.specs.Write.{Put}
 use Rattle.text.proofs.Putting.{◌▹◌, put-none}

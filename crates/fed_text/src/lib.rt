@@ -1,6 +1,8 @@
 // A fed walker's records as text, and how it ended: docs/RULES.md, "L2. A walker fed from the socket". A record's line is as the
 // listing's: `1 060e2b340101010d0e15000100010000 18 2 1`. Behind all lines come their count and `clean`, `again V REST` or
 // `refused N`.
+#![tactic(auto)]
+
 ghost use Rattle.std.specs.Prelude.{◌≡◌, [], ◌∷◌, ◌++◌, length};
 ghost use Rattle.steps.specs.Told.{number};
 ghost use Rattle.text.specs.Write.{Put};
@@ -28,7 +30,7 @@ fn put_line(out: &mut [u8], at: usize, label: &[u8; 16], k: Klv, passed: usize) 
 }
 
 // The state behind a piece, how many records it had, the place after their lines, and the number by which it was refused, or 0.
-#[derive(Drop)]
+#[derive(Clone, Copy)]
 pub struct Lines {
     pub state: State,
     pub records: usize,

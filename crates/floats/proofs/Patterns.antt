@@ -13,9 +13,9 @@ pub no_nan : (f : Format) (n : ℕ) → n % top f ≤ ones f * hid f → T (not 
 no_nan f n h = subst (λ (b : Bool). T (not b)) (sym (nan_bits_above f n)) (le→nltb (ones f * hid f) (n % top f) h)
 
 -- a pattern above it is one's
-pub is_nan : (f : Format) (n : ℕ) → ones f * hid f < n % top f → of_bits f n ≡ nan
+pub nan_above : (f : Format) (n : ℕ) → ones f * hid f < n % top f → of_bits f n ≡ nan
 unfolding is_nan
-is_nan f n h = go (of_bits f n) (sym (nan_bits_is f n) ∙ nan_bits_above f n ∙ lt-ltb (ones f * hid f) (n % top f) h)
+nan_above f n h = go (of_bits f n) (sym (nan_bits_is f n) ∙ nan_bits_above f n ∙ lt-ltb (ones f * hid f) (n % top f) h)
   where
     go : (x : Float) → is_nan x ≡ true → x ≡ nan
     go nan e = refl

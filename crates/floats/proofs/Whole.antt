@@ -1,6 +1,6 @@
 -- A u32 as an f32: z leading zeros leave 32 - z digits, so that 157 - z digits are dropped of the number in units of the smallest f32, which is the
 -- rounding law's k; and the f32 is within 128. Assumes nothing.
-use Rattle.std.proofs.Common.{◌≡◌, ℕ, suc, ◌+◌, ◌-◌, ◌*◌, ◌^◌, ◌<◌, ◌≤◌, Bool, true, false, not, T, leb, sym, ap, ◌∙◌, subst, inr, le_trans, le_of_eq, lt_of_lt_of_le, lt_of_le_of_lt, le_of_lt, mul-le-mul_right, mul_assoc, lt_of_not-le, zero-add, mul-one, mul_right_comm, not-le_of_lt, arith, leb→le, pow_pos, pow_mono, pow-add}
+use Rattle.std.proofs.Common.{◌≡◌, ℕ, suc, ◌+◌, ◌-◌, ◌*◌, ◌^◌, ◌<◌, ◌≤◌, Bool, true, false, not, T, leb, sym, ap, ◌∙◌, subst, inr, le_trans, le_of_eq, lt_of_le_of_lt, mul-le-mul_right, mul_assoc, lt_of_not-le, zero-add, mul-one, mul_right_comm, not-le_of_lt, arith, leb→le, pow_pos, pow_mono, pow-add}
 use native.Mathlib.Nat.{eq_of_mul-eq-mul_right}
 use lib.Count.{count_leading_zeros, leading_top, leading_length}
 use lib.Dec.{nleb→lt}

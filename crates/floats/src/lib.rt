@@ -21,6 +21,8 @@
 //     (v as f64 * 0.001) as f32, and by 0.0000254           metres_of_millimetres(v), metres_of_mils(v)
 //     if d > 10.0 { d as f64 / 1000.0 } else { d as f64 }   density(d)
 //     (master as f64 - 32.0) * 0.5 + delta as f64 * 0.1     gain(master, delta)
+#![tactic(auto)]
+
 ghost use Rattle.std.specs.Prelude.{◌≡◌, ◌-◌, ◌^◌, ◌<◌, ◌≤◌, min, from_bits, to_bits};
 ghost use Rattle.std.specs.Float.{binary32, binary64};
 ghost use Rattle.std.specs.Float.Ieee.Nearest.{closest};

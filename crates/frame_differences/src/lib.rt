@@ -1,6 +1,8 @@
 // Which fields of two frames' values differ: docs/RULES.md, "L14. Two recordings of one take". What a value says is a code and up
 // to three numbers, floats by their bits, so that nothing and infinity are themselves, +0.0 and -0.0 differ, and one comparison
 // serves every kind.
+#![tactic(auto)]
+
 ghost use Rattle.std.specs.Prelude.{◌≡◌};
 ghost use Rattle.frame_differences.specs.Said.{of_single, of_double, of_whole32, of_whole64, of_distance, of_tStop, of_tilt_roll, of_factors, said_of};
 ghost use Rattle.frame_differences.specs.Mask.{same, bit, mask_of};
@@ -8,7 +10,7 @@ ghost use Rattle.frame_differences.specs.Mask.{same, bit, mask_of};
 use frame_values::{Distance, Double, Factors, Frame, Single, TStop, TiltRoll, Whole32, Whole64};
 
 // What a value says: 0 where it is nothing, else the code of its kind, and its numbers or its floats' bits.
-#[derive(Drop)]
+#[derive(Clone, Copy)]
 pub struct Said {
     pub code: u64,
     pub first: u64,

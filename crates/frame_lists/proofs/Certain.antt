@@ -7,7 +7,6 @@ use Rattle.steps.specs.Tells.{tells, passes}
 use Rattle.steps.specs.Next.{Cursor, cursor}
 use Rattle.steps.specs.Passed.{Passed}
 use Rattle.klv.specs.Item.{Item, past}
-use Rattle.certain.proofs.Longest.{Teller}
 use Rattle.certain.proofs.Since.{since-before}
 use Rattle.certain.proofs.Told.{certain-told, counting_as}
 use Rattle.frame_walks.specs.declared.Camera.{Camera}

@@ -1,39 +1,41 @@
 // One record holds all values of a frame: docs/RULES.md, "Frame values". ALEXA Mini's (`arri_mini`) and ALEXA 35's
 // (`arri_alexa35`) metadata fill the same one, each what it has. What the two share is here: the record, and the kinds of
 // number that both have.
+#![tactic(auto)]
+
 ghost use Rattle.std.specs.Prelude.{◌≡◌};
 ghost use Rattle.frame_values.specs.Values.{float_of, positive, single_thousandths, double_thousandths, tilt_roll_of};
 
 // An f32, where there is one.
-#[derive(Drop)]
+#[derive(Clone, Copy)]
 pub enum Single {
     Is(f32),
     Nothing,
 }
 
 // An f64, where there is one.
-#[derive(Drop)]
+#[derive(Clone, Copy)]
 pub enum Double {
     Is(f64),
     Nothing,
 }
 
 // A u32, where there is one.
-#[derive(Drop)]
+#[derive(Clone, Copy)]
 pub enum Whole32 {
     Is(u32),
     Nothing,
 }
 
 // A u64, where there is one.
-#[derive(Drop)]
+#[derive(Clone, Copy)]
 pub enum Whole64 {
     Is(u64),
     Nothing,
 }
 
 // A distance is nothing, infinity or a figure in metres.
-#[derive(Drop)]
+#[derive(Clone, Copy)]
 pub enum Distance {
     Metres(f32),
     Infinity,
@@ -42,7 +44,7 @@ pub enum Distance {
 
 // The T-stop: the figure itself, as the ALEXA Mini has it, or the number on the linear scale that the ALEXA 35 has, of
 // which the host makes the figure.
-#[derive(Drop)]
+#[derive(Clone, Copy)]
 pub enum TStop {
     Is(f32),
     Linear(u32),
@@ -50,35 +52,35 @@ pub enum TStop {
 }
 
 // The camera's angles in degrees.
-#[derive(Drop)]
+#[derive(Clone, Copy)]
 pub struct Angles {
     pub tilt: f32,
     pub roll: f32,
 }
 
 // Tilt and roll, both or neither.
-#[derive(Drop)]
+#[derive(Clone, Copy)]
 pub enum TiltRoll {
     Are(Angles),
     Nothing,
 }
 
 // The white balance factors on the three colours.
-#[derive(Drop)]
+#[derive(Clone, Copy)]
 pub struct Colours {
     pub red: f64,
     pub green: f64,
     pub blue: f64,
 }
 
-#[derive(Drop)]
+#[derive(Clone, Copy)]
 pub enum Factors {
     Are(Colours),
     Nothing,
 }
 
 // The lens encoders' raw values, the lens's own (LDS) and the motor's.
-#[derive(Drop)]
+#[derive(Clone, Copy)]
 pub struct Encoders {
     pub focus_lds: Whole64,
     pub focus_motor: Whole64,
@@ -89,7 +91,7 @@ pub struct Encoders {
 }
 
 // All values of a frame: lengths in mm, times in ms, angles in degrees.
-#[derive(Drop)]
+#[derive(Clone, Copy)]
 pub struct Frame {
     pub focal_length: Single,
     pub focus_distance: Distance,

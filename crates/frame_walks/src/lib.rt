@@ -1,6 +1,8 @@
 // Frame walks: docs/RULES.md, "Frame walks". Each has its own longest element and its own label: the three are one walk with
 // other constants. A longer element takes its frame number and is marked over-long, and the walk goes on from its value. Sony's and
 // ARRI's have arriving forms: "L13. Certain frames".
+#![tactic(auto)]
+
 ghost use Rattle.std.specs.Prelude.{◌≡◌, ◌+◌, ◌-◌, ◌≤◌, false};
 ghost use Rattle.walk.specs.Told.{refusal};
 ghost use Rattle.klv.specs.Item.{item};
@@ -13,7 +15,7 @@ use parts::lesser;
 use walk::{Cursor, Step, Way};
 
 // What a record is to a frame walk.
-#[derive(Drop)]
+#[derive(Clone, Copy)]
 pub enum Kind {
     // A frame's element.
     Frame,
@@ -23,7 +25,7 @@ pub enum Kind {
 }
 
 // Whose walk it is.
-#[derive(Drop)]
+#[derive(Clone, Copy)]
 pub enum Camera {
     Sony,
     Arri,
@@ -31,7 +33,7 @@ pub enum Camera {
 }
 
 // A frame's element: the frame's number, the element, and whether it is longer than any that is read, so that it has no values.
-#[derive(Drop)]
+#[derive(Clone, Copy)]
 pub struct FrameElement {
     pub number: u64,
     pub element: Klv,
@@ -39,7 +41,7 @@ pub struct FrameElement {
 }
 
 // Where a frame walk stands, where walking last went on, and the next frame's number.
-#[derive(Drop)]
+#[derive(Clone, Copy)]
 pub struct Place {
     pub at: usize,
     pub since: usize,
@@ -47,7 +49,7 @@ pub struct Place {
 }
 
 // Sony's walk.
-#[derive(Drop)]
+#[derive(Clone, Copy)]
 pub struct Sony {
     pub place: Place,
 }
@@ -61,7 +63,7 @@ impl Sony {
 }
 
 // ARRI's walk.
-#[derive(Drop)]
+#[derive(Clone, Copy)]
 pub struct Arri {
     pub place: Place,
 }
@@ -77,7 +79,7 @@ impl Arri {
 }
 
 // Canon's walk is Sony's, and gives the values of two labels too.
-#[derive(Drop)]
+#[derive(Clone, Copy)]
 pub struct Canon {
     pub place: Place,
 }
@@ -155,7 +157,7 @@ pub fn longest_of(camera: Camera) -> usize
 }
 
 // What a step of a frame walk finds.
-#[derive(Drop)]
+#[derive(Clone, Copy)]
 pub enum FrameStep {
     // A frame, the bytes passed before it, and the place to go on from.
     Frame(FrameElement, usize, Place),
@@ -168,7 +170,7 @@ pub enum FrameStep {
 }
 
 // What a camera's walk makes of one record.
-#[derive(Drop)]
+#[derive(Clone, Copy)]
 pub enum Looked {
     // It is passed, and walking goes on here.
     Pass(Place),

@@ -1,6 +1,8 @@
 // The header part: docs/RULES.md, "Tables inside values". The label begins with the 13 bytes of `PARTITION_PREFIX`, byte 13 is 2, the
 // pack is whole and has at least 40 bytes. The part is what follows the pack, of (number at 32..40) + (number at 4..8)
 // bytes, cut to the buffer.
+#![tactic(auto)]
+
 ghost use Rattle.std.specs.Prelude.{◌≡◌, ◌+◌, ◌≤◌, min, length};
 ghost use Rattle.header.specs.Header.{told, is_header, size_of, header_of, header_bytes};
 
@@ -8,14 +10,14 @@ use items::{Run, RunNext};
 use parts::number;
 
 // A part of the buffer: where it starts and how long it is.
-#[derive(Drop)]
+#[derive(Clone, Copy)]
 pub struct Place {
     pub at: usize,
     pub len: usize,
 }
 
 // Where the header part is, if there is one.
-#[derive(Drop)]
+#[derive(Clone, Copy)]
 pub enum Header {
     Part(Place),
     Nothing,

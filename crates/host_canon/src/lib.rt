@@ -1,5 +1,7 @@
 // What a host links of Canon's packs: a Private Camera Metadata in, two lent arrays out, with a place in each for each value
 // (include/brinethimble.h).
+#![tactic(auto)]
+
 ghost use Rattle.std.specs.Prelude.{◌≡◌, take, drop};
 ghost use Rattle.host_slots.specs.Slots.{kinds, patterns};
 ghost use Rattle.canon_packs.specs.Camera.{camera_of};

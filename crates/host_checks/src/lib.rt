@@ -1,4 +1,6 @@
 // What a host links of the checks of whole files: numbers and slices in, a status and lent places out (include/brinethimble.h).
+#![tactic(auto)]
+
 ghost use Rattle.std.specs.Prelude.{◌≡◌};
 ghost use Rattle.steps.specs.Told.{number};
 ghost use Rattle.strict.specs.Strict.{strict_of};

@@ -1,5 +1,7 @@
 // What a host links of picture descriptors: a set in, a status and two lent arrays out, with a place in each for each item
 // (include/brinethimble.h).
+#![tactic(auto)]
+
 ghost use Rattle.std.specs.Prelude.{◌≡◌, take, drop};
 ghost use Rattle.host_slots.specs.Slots.{kinds, patterns};
 ghost use Rattle.descriptor.specs.Descriptor.{descriptor_told};

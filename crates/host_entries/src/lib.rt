@@ -1,4 +1,6 @@
 // A record of an index, and its layout, as a host has them (include/brinethimble.h).
+#![tactic(auto)]
+
 ghost use Rattle.std.specs.Prelude.{◌≡◌};
 ghost use Rattle.host_entries.specs.Entries.{layout_of, entry_of};
 

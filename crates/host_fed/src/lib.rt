@@ -1,5 +1,7 @@
 // What a host links of the fed walker: it lends the state, an array of numbers, and each call updates it (include/brinethimble.h).
 // Nothing of a made-up array is trusted.
+#![tactic(auto)]
+
 ghost use Rattle.std.specs.Prelude.{◌≡◌, true, false, List, ℕ, ◌+◌, ◌-◌, ◌≤◌, length, drop};
 ghost use Rattle.steps.specs.Told.{number};
 ghost use Rattle.fed_states.specs.State.{opened, sought};
@@ -42,7 +44,7 @@ pub extern "C" fn brine_fed_end(end: usize, state: &mut [u64; 10]) -> u32
 
 // What a piece comes to before a search: the call's status where it ends there, or SEARCHES, the place of the stream where a search
 // starts, and how many bytes were taken before it.
-#[derive(Drop)]
+#[derive(Clone, Copy)]
 pub struct Start {
     pub at: usize,
     pub taken: usize,

@@ -1,5 +1,7 @@
 // What a host links of the fed frame walks: it lends the state, an array of numbers, and each call updates it
 // (include/brinethimble.h). Nothing of a made-up array is trusted.
+#![tactic(auto)]
+
 ghost use Rattle.std.specs.Prelude.{◌≡◌, true, false};
 ghost use Rattle.steps.specs.Told.{number};
 ghost use Rattle.frame_walks.specs.declared.Camera.TheVariants as camera;

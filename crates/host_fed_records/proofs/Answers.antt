@@ -1,7 +1,7 @@
 -- What the whole call comes to: a piece is refused, or its records were put. Assumes nothing.
-use Prim.Native.Nat.{ℕ, zero}
-use mathlib.Core.Path.{◌≡◌, refl, sym, ap, ◌∙◌}
-use mathlib.Core.List.{List, [], ◌∷◌}
+use Prim.Native.Nat.{ℕ}
+use mathlib.Core.Path.{◌≡◌, refl, sym, ◌∙◌}
+use mathlib.Core.List.{List}
 use lib.ListN.{length}
 use borrow.Author.Tests.{ne_eqb}
 use Rattle.steps.specs.Told.{number}

@@ -5,7 +5,7 @@ use mathlib.Core.List.{List}
 use native.Mathlib.Omega.{arith}
 use lib.ListN.{length, get_or, take, drop, length-drop}
 use lib.Seq.{drop-drop}
-use Rattle.steps.specs.Told.{Told, found, nothing, refused}
+use Rattle.steps.specs.Told.{found, nothing}
 use Rattle.steps.specs.Next.{cursor}
 use Rattle.parts.proofs.Parts.{part_rest}
 use Rattle.labels.specs.Label.{label_at}

@@ -7,7 +7,6 @@ use native.Mathlib.Decide.{dec_lt}
 use native.Mathlib.Omega.{arith}
 use lib.ListN.{length}
 use lib.Seq.{sets}
-use Rattle.steps.specs.Next.{cursor}
 use Rattle.labels.specs.Label.{label_at}
 use Rattle.klv.specs.declared.Klv.{Klv}
 use Rattle.fed_states.specs.declared.State.{State}

@@ -1,4 +1,6 @@
 // What a host links of the fed walker's lists: as many records of a piece as there is lent room for (include/brinethimble.h).
+#![tactic(auto)]
+
 ghost use Rattle.std.specs.Prelude.{◌≡◌, ◌+◌, ◌-◌, ◌*◌, ◌^◌, ◌≤◌, ◌<◌, length};
 ghost use Rattle.std.proofs.lemmas.List.Edits.{sets};
 ghost use Rattle.steps.specs.Told.{number};
@@ -30,7 +32,7 @@ const LABEL: usize = 16;
 
 // What a piece comes to before a search: the call's status where it ends there, or SEARCHES, the place of the stream where a search
 // starts, where walking last went on, and how many bytes were taken and records put.
-#[derive(Drop)]
+#[derive(Clone, Copy)]
 pub struct Start {
     pub at: usize,
     pub since: usize,

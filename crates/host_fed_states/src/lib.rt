@@ -1,5 +1,7 @@
 // A fed walker's state as a host has it: ten numbers in an array that it lends (include/brinethimble.h). Any ten numbers are a state.
 // What a call does most goes by the numbers alone, since making a state of them takes as long as reading a record.
+#![tactic(auto)]
+
 mod keys;
 
 ghost use Rattle.std.specs.Prelude.{◌≡◌, ◌+◌, ◌≤◌, ◌<◌, ◌^◌, ◌++◌, ◌&&◌, length, leb};
@@ -144,7 +146,7 @@ pub fn limit_of(s: &[u64; 10]) -> usize
 }
 
 // Where a search starts: at which place of the stream, and how many bytes of a piece come before it.
-#[derive(Drop)]
+#[derive(Clone, Copy)]
 pub struct Search {
     pub at: usize,
     pub taken: usize,
@@ -168,7 +170,7 @@ pub fn starting(s: &[u64; 10], piece: &[u8]) -> Search
 
 // A value that is waited for: with how many bytes from its key on it is whole, 0 where there is none; the record that it is then, and
 // its end.
-#[derive(Drop)]
+#[derive(Clone, Copy)]
 pub struct Value {
     pub due: usize,
     pub next: usize,

@@ -1,4 +1,6 @@
 // The values of a frame at their places of a host's two arrays: include/brinethimble.h, BRINE_FRAME_*.
+#![tactic(auto)]
+
 ghost use Rattle.std.specs.Prelude.{◌≡◌, take, drop};
 ghost use Rattle.host_slots.specs.Slots.{kinds, patterns};
 ghost use Rattle.host_frame_places.specs.Places.{single_slot, double_slot, whole32_slot, whole64_slot, distance_slot, t_stop_slot, tilt_slot, roll_slot, red_slot, green_slot, blue_slot, frame_slots, value_slots};

@@ -1,4 +1,6 @@
 // What a host links of the frame walks: numbers and slices in, a status and lent places out (include/brinethimble.h).
+#![tactic(auto)]
+
 ghost use Rattle.std.specs.Prelude.{◌≡◌};
 ghost use Rattle.steps.specs.Next.{Cursor, cursor};
 ghost use Rattle.frame_walks.specs.Frames.{Carried, carried, sony_step, sony_arrive, arri_step, arri_arrive, canon_step};

@@ -1,4 +1,6 @@
 // What a host links of the index: numbers and slices in, a status and lent places out (include/brinethimble.h).
+#![tactic(auto)]
+
 ghost use Rattle.std.specs.Prelude.{◌≡◌, [], ◌∷◌, length};
 ghost use Rattle.tally.specs.Adding.{group_at};
 ghost use Rattle.index.specs.Index.{find_of, add_of, after_add};

@@ -1,4 +1,6 @@
 // A flag and a signed number as a host's arrays of u64 have them: include/brinethimble.h.
+#![tactic(auto)]
+
 ghost use Rattle.std.specs.Prelude.{◌≡◌};
 ghost use Rattle.host_numbers.specs.Numbers.{twos, mark};
 

@@ -1,4 +1,6 @@
 // What a host links of the outline: numbers and slices in, a status and lent places out (include/brinethimble.h).
+#![tactic(auto)]
+
 ghost use Rattle.std.specs.Prelude.{◌≡◌, length};
 ghost use Rattle.outline_text.specs.Said.{outline_said, outline_into};
 ghost use Rattle.host_outline.specs.Places.{outline_places};

@@ -1,4 +1,6 @@
 // What a host links of the lists: as many records of a walk as there is lent room for (include/brinethimble.h).
+#![tactic(auto)]
+
 ghost use Rattle.std.specs.Prelude.{◌≡◌, ◌+◌, ◌/◌, ◌≤◌, ◌<◌, length};
 ghost use Rattle.steps.specs.Told.{number};
 ghost use Rattle.steps.specs.Next.{cursor};
@@ -11,7 +13,7 @@ use klv::Klv;
 use walk::{Cursor, Step, Way};
 
 // How many records were put, where the next step starts, and where walking last went on.
-#[derive(Drop)]
+#[derive(Clone, Copy)]
 pub struct Batch {
     pub count: usize,
     pub next: usize,

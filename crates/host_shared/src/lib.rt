@@ -1,4 +1,6 @@
 // What a host links of two files in one index room: numbers and slices in, a status and lent places out (include/brinethimble.h).
+#![tactic(auto)]
+
 ghost use Rattle.std.specs.Prelude.{◌≡◌, ◌/◌, length};
 ghost use Rattle.host_entries.specs.Entries.{layout_of, entry_of};
 ghost use Rattle.shared_index.specs.Rooms.{set_up_of, opened_of, closed_of};

@@ -5,7 +5,7 @@ use mathlib.Core.List.{List, [], ◌∷◌, ◌++◌, map, map-append, append-ni
 use native.Mathlib.Nat.{zero-add}
 use native.Mathlib.Numerals.{add-one}
 use native.Mathlib.Omega.{arith}
-use lib.ListN.{length, set, take, drop, get_or, length-map, length-take}
+use lib.ListN.{length, set, take, get_or, length-map, length-take}
 use lib.Seq.{sets, sets-eq, take-suc, drop-length}
 use Rattle.host_slots.specs.declared.Slot.{Slot}
 use Rattle.host_slots.specs.Slots.{Put, nothing, kinds, patterns}

@@ -1,5 +1,7 @@
 // A value as a host's two arrays have it, its kind in one and its 64 bits in the other: include/brinethimble.h. Every list of
 // values has the same 32 places, filled eight at a time.
+#![tactic(auto)]
+
 ghost use Rattle.std.specs.Prelude.{◌≡◌, ◌+◌, ◌≤◌, ◌++◌};
 ghost use Rattle.host_slots.specs.Slots.{slot, nothing, single, double, kinds, patterns, Put};
 
@@ -35,7 +37,7 @@ pub const MANUAL: u64 = 13;
 pub const RESERVED: u64 = 14;
 
 // A value's kind and its bits.
-#[derive(Drop)]
+#[derive(Clone, Copy)]
 pub struct Slot {
     pub kind: u64,
     pub bits: u64,

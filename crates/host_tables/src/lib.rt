@@ -1,5 +1,7 @@
 // What a host links of the tables inside values: numbers and slices in, a status and lent places out
 // (include/brinethimble.h).
+#![tactic(auto)]
+
 ghost use Rattle.std.specs.Prelude.{◌≡◌, length};
 ghost use Rattle.primer.specs.Primer.{entry_of};
 ghost use Rattle.primer_table.specs.Table.{table_of, held_for};
@@ -153,7 +155,7 @@ pub extern "C" fn brine_package(s: &[u8], from: usize, end: usize, out: &mut [u6
 }
 
 // Where an identifier is.
-#[derive(Drop)]
+#[derive(Clone, Copy)]
 pub struct Spot {
     pub found: u64,
     pub at: u64,

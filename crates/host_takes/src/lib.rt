@@ -1,5 +1,7 @@
 // What a host links of two recordings of one take: numbers and slices in, a status and lent places out
 // (include/brinethimble.h).
+#![tactic(auto)]
+
 ghost use Rattle.std.specs.Prelude.{◌≡◌};
 ghost use Rattle.host_slots.specs.Slots.{kinds, patterns};
 ghost use Rattle.takes.specs.Takes.{takes, takes_step};
@@ -11,7 +13,7 @@ use take_frames::{Kind, Recorder};
 use takes::{Step, Takes};
 
 // What differs, the side that has it, and the fields that differ, by numbers.
-#[derive(Drop)]
+#[derive(Clone, Copy)]
 pub struct What {
     pub what: u64,
     pub side: u64,
@@ -19,7 +21,7 @@ pub struct What {
 }
 
 // The values of both sides.
-#[derive(Drop)]
+#[derive(Clone, Copy)]
 pub struct Sides {
     pub main: Values,
     pub backup: Values,

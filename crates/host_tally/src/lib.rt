@@ -1,5 +1,7 @@
 // What a host links of the tally (include/brinethimble.h). It stands apart from the lists of records, so that their loop takes the
 // walk's step in.
+#![tactic(auto)]
+
 ghost use Rattle.std.specs.Prelude.{◌≡◌};
 ghost use Rattle.tally.specs.Groups.{groups_of, answer_of, front};
 ghost use Rattle.host_tally.specs.Places.{tally_places};

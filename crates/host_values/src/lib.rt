@@ -1,5 +1,7 @@
 // What a host links of frame values: bytes in, two lent arrays out, with a place in each for each value
 // (include/brinethimble.h).
+#![tactic(auto)]
+
 ghost use Rattle.std.specs.Prelude.{◌≡◌};
 ghost use Rattle.host_slots.specs.Slots.{kinds, patterns};
 ghost use Rattle.host_frame_places.specs.Places.{frame_slots, value_slots};

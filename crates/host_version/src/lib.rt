@@ -1,4 +1,6 @@
 // Which library a host has linked: include/brinethimble.h.
+#![tactic(auto)]
+
 ghost use Rattle.std.specs.Prelude.{◌≡◌};
 ghost use Rattle.host_version.specs.Version.{version};
 

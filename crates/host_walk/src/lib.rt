@@ -1,4 +1,6 @@
 // What a host links of the walk: numbers and slices in, a status and lent places out (include/brinethimble.h).
+#![tactic(auto)]
+
 ghost use Rattle.std.specs.Prelude.{ℕ, ◌≡◌, List};
 ghost use Rattle.steps.specs.Told.{number};
 ghost use Rattle.lengths.specs.Length.{length_at};

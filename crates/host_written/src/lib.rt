@@ -1,4 +1,6 @@
 // What a host links of the writers: numbers and slices in, a status and lent places out (include/brinethimble.h).
+#![tactic(auto)]
+
 ghost use Rattle.std.specs.Prelude.{◌≡◌, true, length};
 ghost use Rattle.written_lengths.specs.Form.{shortest_size, form_of, holds};
 ghost use Rattle.written_klvs.specs.Klvs.{klv_bytes, rewritten};

@@ -1,12 +1,14 @@
 // An index beside the file: docs/RULES.md, "L10. An index beside the file". A record takes 16 bytes, most significant bit first:
 // 48 bits start, 4 bits size of the length field, 12 bits group, 64 bits length.
+#![tactic(auto)]
+
 ghost use Rattle.std.specs.Prelude.{◌≡◌, ◌+◌, ◌*◌, ◌≤◌, ◌<◌, ◌^◌, true, length, ltb};
 ghost use Rattle.parts.specs.Number.{number_at};
 ghost use Rattle.index.specs.Places.{start_place, rest_place, slot_of, slot_entry, put_slot, most_of, entries};
 ghost use Rattle.index.specs.Lists.{end_of, good_fields, one, of_three, of_few, starts_by, count_in, look_in, early_in, add_to};
 ghost use Rattle.index.specs.Index.{written, find_of, add_of, after_add, find_from, add_from, after_from};
 
-#[derive(Drop)]
+#[derive(Clone, Copy)]
 pub struct Entry {
     pub start: u64,
     pub size: u64,
@@ -15,7 +17,7 @@ pub struct Entry {
 }
 
 // How an index is laid out.
-#[derive(Drop)]
+#[derive(Clone, Copy)]
 pub enum Layout {
     // 16 bytes a record.
     Rows,
@@ -128,14 +130,14 @@ fn good(e: Entry) -> bool
 }
 
 // A record that was found: its number in the list, and itself.
-#[derive(Drop)]
+#[derive(Clone, Copy)]
 pub struct Found {
     pub number: usize,
     pub entry: Entry,
 }
 
 // What asking for a byte position answers.
-#[derive(Drop)]
+#[derive(Clone, Copy)]
 pub enum Looked {
     At(Found),
     Nothing,
@@ -265,7 +267,7 @@ pub fn find(l: Layout, b: &[u8], used: usize, pos: u64) -> Looked
 }
 
 // What adding a record answers.
-#[derive(Drop)]
+#[derive(Clone, Copy)]
 pub enum Added {
     // 0: so many records are in it now.
     Done(usize),

@@ -1,10 +1,8 @@
 -- What is answered goes by the list and the room alone, so every script of calls is answered in columns as in rows. Assumes nothing.
-use Prim.Native.Nat.{ℕ, ◌/◌, ◌^◌, ◌<◌}
+use Prim.Native.Nat.{ℕ, ◌^◌, ◌<◌}
 use mathlib.Core.Path.{◌≡◌, refl, sym, ap, ◌∙◌}
 use mathlib.Core.List.{List, [], ◌∷◌, ◌++◌}
-use mathlib.Core.Bool.{Bool, false}
-use lib.ListN.{length}
-use lib.Seq.{length-sets}
+use mathlib.Core.Bool.{false}
 use Rattle.index.specs.declared.Entry.{Entry}
 use Rattle.index.specs.declared.Layout.{Layout}
 use Rattle.index.specs.declared.Added.{Added}

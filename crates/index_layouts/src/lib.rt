@@ -1,4 +1,6 @@
 // Rows into columns and back, into a second lent buffer: docs/RULES.md, "L12. Columns instead of rows".
+#![tactic(auto)]
+
 ghost use Rattle.std.specs.Prelude.{◌≡◌, ◌*◌, ◌<◌, ◌^◌};
 ghost use Rattle.index.specs.declared.Layout.TheVariants.{Rows, Columns};
 ghost use Rattle.index_layouts.specs.Turning.{in_columns, in_rows, came_from, turn_of, after_turn};
@@ -6,7 +8,7 @@ ghost use Rattle.index_layouts.specs.Turning.{in_columns, in_rows, came_from, tu
 use index::Layout;
 
 // What turning one layout into the other answers.
-#[derive(Drop)]
+#[derive(Clone, Copy)]
 pub enum Turned {
     Done,
     // 3: the output is shorter; so many bytes are needed.

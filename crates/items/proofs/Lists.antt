@@ -7,7 +7,7 @@ use native.Mathlib.Omega.{arith}
 use lib.ListN.{length}
 use Rattle.steps.specs.Listed.{before, list_from}
 use Rattle.steps.proofs.Laws.{Moves, listed}
-use Rattle.klv.specs.Item.{Item, item}
+use Rattle.klv.specs.Item.{item}
 use Rattle.items.specs.declared.RunNext.{RunNext}
 use Rattle.items.specs.declared.RunNext.TheVariants as run
 use Rattle.items.specs.declared.LocalNext.{LocalNext}

@@ -2,6 +2,8 @@
 // "The walk" and "Tables inside values". A run has keys of 16 bytes of any kind and BER lengths, and looks for no key start.
 // A set's items have tags and lengths of 2 bytes, or BER lengths where its label's byte 5 is 13h. All are one step over a
 // coding.
+#![tactic(auto)]
+
 ghost use Rattle.std.specs.Prelude.{◌≡◌};
 ghost use Rattle.items.specs.Items.{length_in, item_step, run_step, coding_of};
 ghost use Rattle.items.specs.Told.{whole_told, told, local_told};
@@ -20,7 +22,7 @@ fn length_in(s: &[u8], at: usize, ber: bool) -> Length
 }
 
 // An item that is whole, or none.
-#[derive(Drop)]
+#[derive(Clone, Copy)]
 enum Whole {
     Is(Klv),
     No,
@@ -57,13 +59,13 @@ fn item_at(s: &[u8], at: usize, key: usize, ber: bool) -> Whole
 }
 
 // Where a run is read.
-#[derive(Drop)]
+#[derive(Clone, Copy)]
 pub struct Run {
     pub at: usize,
 }
 
 // What a step of a run finds.
-#[derive(Drop)]
+#[derive(Clone, Copy)]
 pub enum RunNext {
     // A KLV, and the cursor past it.
     Item(Klv, Run),
@@ -86,7 +88,7 @@ impl Run {
 }
 
 // How a set's items are coded: the bytes of a tag, and whether lengths are BER or of two bytes.
-#[derive(Drop)]
+#[derive(Clone, Copy)]
 pub struct Coding {
     pub tag: usize,
     pub ber: bool,
@@ -115,13 +117,13 @@ impl Coding {
 }
 
 // Where a set's items are read.
-#[derive(Drop)]
+#[derive(Clone, Copy)]
 pub struct Local {
     pub at: usize,
 }
 
 // What a step over a set's items finds.
-#[derive(Drop)]
+#[derive(Clone, Copy)]
 pub enum LocalNext {
     // An item, its tag where it starts, and the cursor past it.
     Item(Klv, Local),

@@ -1,11 +1,13 @@
 // A KLV, what every walk, run and set gives: where its key starts, where its value starts and how long that is, the bytes that
 // its length took and whether they are the shortest form. Its bytes stay in the buffer, and are handed out as parts of it.
+#![tactic(auto)]
+
 ghost use Rattle.std.specs.Prelude.{◌≡◌, take, drop};
 ghost use Rattle.labels.specs.Label.{label_at};
 
 // No two fields that a host is given side by side stand side by side here: they would be loaded as one, right behind two stores, and
 // x86-64 waits for that.
-#[derive(Drop)]
+#[derive(Clone, Copy)]
 pub struct Klv {
     pub value: usize,
     pub size: usize,

@@ -1,5 +1,7 @@
 // A walk's record as text, as the listing has it: `1 060e2b340101010d0e15000100010000 18 2 1` is the record at 1 whose value is
 // the 2 bytes from 18 on, 1 byte having been passed before it.
+#![tactic(auto)]
+
 ghost use Rattle.klv_text.specs.Text.{record_text};
 ghost use Rattle.text.specs.Write.{Put};
 

@@ -1,5 +1,7 @@
 // Labels: docs/RULES.md, "Lengths and labels". Two labels are the same when both have 16 bytes and agree in all but the
 // byte at 7.
+#![tactic(auto)]
+
 ghost use Rattle.std.specs.Prelude.{◌≡◌, ◌+◌, ◌≤◌, length, drop, eqb};
 ghost use Rattle.parts.specs.Number.{number_at};
 ghost use Rattle.labels.specs.Label.{beginning, agree_but, same_label, codes_items, label_at, partition_prefix, partition_kind};

@@ -11,7 +11,6 @@ use lib.Dec.{lit<}
 use Rattle.parts.specs.Bytes.{Bytes}
 use Rattle.parts.specs.Number.{number_at}
 use Rattle.parts.proofs.Numbers.{number-below}
-use Rattle.lengths.specs.declared.Field.{Field}
 use Rattle.lengths.specs.declared.Length.{Length}
 use Rattle.lengths.specs.declared.Length.TheVariants.{Is}
 use Rattle.lengths.specs.Length.{bound_of, shortest_of, field, length_at}

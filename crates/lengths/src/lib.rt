@@ -1,5 +1,7 @@
 // Lengths: docs/RULES.md, "Lengths and labels", and "L1. How long the length field was". First length byte below 80h: that number, 1 byte. 80h: length 0, 1 byte.
 // 81h to 88h: that many more bytes hold it. 89h and above: no length. Bytes missing: cut.
+#![tactic(auto)]
+
 ghost use Rattle.std.specs.Prelude.{◌≡◌, ◌+◌, ◌≤◌, length};
 ghost use Rattle.parts.specs.Number.{number_at};
 ghost use Rattle.lengths.specs.Length.{shortest_of, length_at, two_bytes_at};
@@ -7,7 +9,7 @@ ghost use Rattle.lengths.specs.Length.{shortest_of, length_at, two_bytes_at};
 use parts::{number, u64_of};
 
 // A length: its value, how many bytes it took, and whether no shorter form would have held it.
-#[derive(Drop)]
+#[derive(Clone, Copy)]
 pub struct Field {
     pub value: u64,
     pub size: usize,
@@ -15,7 +17,7 @@ pub struct Field {
 }
 
 // What stands at a place where a length is wanted.
-#[derive(Drop)]
+#[derive(Clone, Copy)]
 pub enum Length {
     Is(Field),
     // Its bytes are not all there.

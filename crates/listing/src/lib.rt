@@ -1,5 +1,7 @@
 // The listing's text: docs/RULES.md, "Tally and listing". A line for each record of the finished walk, their count, a line for
 // each group of the tally, and how many are other.
+#![tactic(auto)]
+
 ghost use Rattle.std.specs.Prelude.{◌≡◌, length};
 ghost use Rattle.text.specs.Write.{Put};
 ghost use Rattle.records.specs.Records.{finished};
@@ -12,7 +14,7 @@ use text::{put_all, put_byte, put_decimal};
 use walk::{Cursor, Step};
 
 // How many records there are, and the place after their lines.
-#[derive(Drop)]
+#[derive(Clone, Copy)]
 struct Lines {
     records: usize,
     at: usize,

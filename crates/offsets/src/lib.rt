@@ -1,4 +1,6 @@
 // A place of a file as a walk has it, and as the system has it: a signed number, which is below 0 where there is none.
+#![tactic(auto)]
+
 ghost use Rattle.std.specs.Prelude.{◌≡◌};
 ghost use Rattle.offsets.specs.Offsets.{place_of, offset_of};
 

@@ -3,6 +3,8 @@
 //
 // Each `add_` call puts a text at a place, as much of it as there is room for, and answers the place after the whole of it,
 // also where there is less room: put into no room, a text is only counted.
+#![tactic(auto)]
+
 ghost use Rattle.std.specs.Prelude.{◌≡◌, ◌+◌};
 ghost use Rattle.text.specs.Write.{decimal_of, hex_of};
 ghost use Rattle.outline_lines.specs.Lines.{cap, item_line, rest_of, Added};

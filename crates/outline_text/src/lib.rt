@@ -1,5 +1,7 @@
 // The outline of a file: docs/RULES.md, "L4. An outline". At file level the walk's records; a run opens sets, and the 88h item
 // of a set with tags of 1 byte opens a run again, while levels are left.
+#![tactic(auto)]
+
 ghost use Rattle.std.specs.Prelude.{◌≡◌, ◌+◌, ◌≤◌, length};
 ghost use Rattle.outline_lines.specs.Lines.{Added};
 ghost use Rattle.outline_text.specs.Opening.{set_in, runs_in};
@@ -13,7 +15,7 @@ use parts::saturating_sub;
 use walk::{Cursor, Step};
 
 // What the value under a label is.
-#[derive(Drop)]
+#[derive(Clone, Copy)]
 pub enum Opened {
     // A value that is not looked into.
     Leaf,
@@ -135,7 +137,7 @@ fn file_outline(s: &[u8], end: usize, left: usize, out: &mut [u8], at: usize) ->
 }
 
 // What the outline call answers.
-#[derive(Drop)]
+#[derive(Clone, Copy)]
 pub enum Outlined {
     // 0: the outline stands in the room, so many bytes of it.
     Is(usize),

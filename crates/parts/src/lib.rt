@@ -1,5 +1,7 @@
 // The bytes at a place: a part of the buffer, cut to what is there, and the number that bytes hold.
 // docs/RULES.md: "numbers are big-endian"; "`vec![0; length]`: parts of the buffer".
+#![tactic(auto)]
+
 ghost use Rattle.std.specs.Prelude.{◌≡◌, ◌-◌, ◌%◌, ◌^◌, min, take, drop};
 ghost use Rattle.parts.specs.Number.{number_of, one_at, two_at, four_at};
 

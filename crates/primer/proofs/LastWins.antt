@@ -1,5 +1,5 @@
 -- The search from the end answers the last entry of a tag. Assumes nothing.
-use Prim.Native.Nat.{ℕ, zero, suc, ◌+◌, ◌-◌, ◌*◌, ◌/◌, ◌≤◌, ◌<◌}
+use Prim.Native.Nat.{ℕ, zero, suc, ◌+◌, ◌-◌, ◌/◌, ◌≤◌, ◌<◌}
 use mathlib.Core.Path.{◌≡◌, refl}
 use mathlib.Core.List.{List}
 use mathlib.Core.Bool.{Bool, true, false}
@@ -12,7 +12,7 @@ use lib.Dec.{eqb}
 use Rattle.parts.specs.Number.{number_at}
 use Rattle.parts.specs.Answer.{Answer, is, none}
 use Rattle.primer.specs.Primer.{last_of, entry_of}
-use Rattle.primer.specs.LastWins.{place, Tagged, Last, LastWins, LastTagWins}
+use Rattle.primer.specs.LastWins.{place, Last, LastWins, LastTagWins}
 use Rattle.primer.proofs.Laws.{newest, older, last_none, entry-of}
 
 module _ (s : List ℕ) (tag : ℕ) where

@@ -1,6 +1,8 @@
 // The primer: docs/RULES.md, "Tables inside values", and "L5. Last tag wins". Bytes 4..8 must be 18, else it is empty; the count
 // is ignored; entries of 18 start at 8, and a partial last one is dropped. Of equal tags the last wins: the search goes
 // backwards from the last whole entry and takes the first that it meets. Nothing is kept: the search is of the lent bytes.
+#![tactic(auto)]
+
 ghost use Rattle.std.specs.Prelude.{◌≡◌, ◌+◌, ◌≤◌, length, eqb};
 ghost use Rattle.parts.specs.Number.{number_at};
 ghost use Rattle.primer.specs.Primer.{told, entries_in, entry_of};
@@ -8,7 +10,7 @@ ghost use Rattle.primer.specs.Primer.{told, entries_in, entry_of};
 use parts::number;
 
 // What the primer has for a tag.
-#[derive(Drop)]
+#[derive(Clone, Copy)]
 pub enum Entry {
     // The place of its label's 16 bytes.
     Label(usize),

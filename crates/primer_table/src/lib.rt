@@ -1,6 +1,8 @@
 // A table over a primer: docs/RULES.md, "A primer's table". It is filled in one pass from the first entry to the last, so that the
 // last of equal tags stays. A look-up is then one place of it and one entry, which must have the tag: so the table needs no
 // clearing first, and what was in it does no harm.
+#![tactic(auto)]
+
 ghost use Rattle.std.specs.Prelude.{◌≡◌, ◌<◌, length};
 ghost use Rattle.parts.specs.Number.{number_at};
 ghost use Rattle.primer.specs.Primer.{told, entries_in};

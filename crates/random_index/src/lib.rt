@@ -1,5 +1,7 @@
 // The random index pack: docs/RULES.md, "L6. The random index pack". It ends a file, and its last four bytes say how long it is,
 // from its key on. Ahead of them stand pairs of a body stream's number and an offset in the file.
+#![tactic(auto)]
+
 ghost use Rattle.std.specs.Prelude.{◌≡◌, ◌+◌, ◌≤◌, length};
 ghost use Rattle.random_index.specs.Index.{pairs_behind, index_of, is_partition, pair_step};
 ghost use Rattle.random_index.specs.Told.{told, step_told};
@@ -8,14 +10,14 @@ use labels::RANDOM_INDEX;
 use lengths::Length;
 
 // Where the pairs are read, and how many are left.
-#[derive(Drop)]
+#[derive(Clone, Copy)]
 pub struct Pairs {
     pub at: usize,
     pub left: usize,
 }
 
 // What is found at a file's end.
-#[derive(Drop)]
+#[derive(Clone, Copy)]
 pub enum Index {
     // A pack: the cursor at its first pair.
     Pairs(Pairs),
@@ -79,7 +81,7 @@ fn is_partition(s: &[u8], at: usize) -> bool
 }
 
 // A pair: a body stream's number, an offset in the file, and whether a partition pack's label stands there.
-#[derive(Drop)]
+#[derive(Clone, Copy)]
 pub struct Pair {
     pub stream: u32,
     pub offset: u64,
@@ -87,7 +89,7 @@ pub struct Pair {
 }
 
 // What a step over the pairs finds.
-#[derive(Drop)]
+#[derive(Clone, Copy)]
 pub enum Step {
     // A pair, and the cursor past it.
     Pair(Pair, Pairs),

@@ -1,11 +1,11 @@
 -- The counted lists go by the walks' steps, and their spans add up, since walking goes on at or before each record's start.
 -- Assumes nothing.
 use Prim.Native.Nat.{ℕ, zero, suc, ◌+◌, ◌-◌, ◌≤◌, ◌<◌, min}
-use mathlib.Core.Path.{◌≡◌, refl, sym, ap, ◌∙◌}
+use mathlib.Core.Path.{◌≡◌, refl, sym, ◌∙◌}
 use mathlib.Core.List.{List, [], ◌∷◌}
 use native.Mathlib.Omega.{arith}
 use lib.ListN.{length}
-use Rattle.steps.specs.Told.{Told, ToldAt, found, nothing, refused}
+use Rattle.steps.specs.Told.{Told, found, nothing, refused}
 use Rattle.steps.specs.Tells.{saying, told_from, state_of, state_after}
 use Rattle.steps.specs.Next.{Cursor, cursor}
 use Rattle.steps.specs.Passed.{Passed}
@@ -16,11 +16,11 @@ use Rattle.walk.specs.declared.Turn.{Turn}
 use Rattle.walk.specs.declared.Turn.TheVariants.{Stop, Search, Record}
 use Rattle.walk.specs.Rules.{rules}
 use Rattle.walk.specs.Walk.{walked, finished_after, finished_by, arriving_after, arriving_by, stepped, finished_step, arriving_step}
-use Rattle.walk.specs.Passed.{last_on, counted, passing, finished_passing, arriving_passing}
+use Rattle.walk.specs.Passed.{last_on, passing}
 use Rattle.walk.proofs.Laws.{rules_moves, rules_record}
 use Rattle.walk.proofs.Answers.{finished-within, arriving-within, not-refused, not-past_limit}
 use Rattle.records.specs.Records.{finished_from, ends_at, arriving_from, waits_at}
-use Rattle.records.specs.Passed.{counting, finished_passed, ends_passed, arriving_passed, waits_passed, FinishedPassing, ArrivingPassing, spans, last_end, AddsUp}
+use Rattle.records.specs.Passed.{counting, FinishedPassing, ArrivingPassing, spans, last_end, AddsUp}
 use Rattle.records.proofs.Lists as lists
 use Rattle.records.proofs.Lists.{found-next, finished-says, arriving-says}
 use Rattle.records.proofs.Stepping.{stepped_on, finished_steps, arriving_steps}

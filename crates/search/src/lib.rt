@@ -1,5 +1,7 @@
 // The search for 06 0e 2b 34, and where a search waits that finds none: docs/RULES.md, "The walk", rule 2, and "The
 // arriving walk".
+#![tactic(auto)]
+
 ghost use Rattle.std.specs.Prelude.{◌≡◌, true, false, ◌+◌, ◌≤◌, ◌<◌, length};
 ghost use Rattle.labels.specs.Label.{key_at};
 ghost use Rattle.search.specs.Search.{search_from, next_key, key_begins, wait_from, Passes};

@@ -1,5 +1,7 @@
 // Two uploads, one index room: docs/RULES.md, "L11. Two uploads, one index room". File 0 stands from the first slot up, file 1 from the
 // last slot down: nothing ever moves.
+#![tactic(auto)]
+
 ghost use Rattle.std.specs.Prelude.{◌≡◌, ◌+◌, ◌*◌, ◌/◌, ◌≤◌, max, length};
 ghost use Rattle.shared_index.specs.Rooms.{file_of, with_file, changed, free_of, is_second, is_open, is_sound, set_up_of, opened_of, closed_of};
 ghost use Rattle.shared_index.specs.Shared.{looked_as, added_as, find_of, add_of, after_add};
@@ -7,7 +9,7 @@ ghost use Rattle.shared_index.specs.Shared.{looked_as, added_as, find_of, add_of
 use index::{Added, Entry, Found, Layout, Looked};
 
 // A file in the room: how many entries are reserved for it, how many records it has, and whether it is open.
-#[derive(Drop)]
+#[derive(Clone, Copy)]
 pub struct File {
     pub share: usize,
     pub used: usize,
@@ -15,7 +17,7 @@ pub struct File {
 }
 
 // A room for so many entries, and the two files that share it.
-#[derive(Drop)]
+#[derive(Clone, Copy)]
 pub struct Room {
     pub whole: usize,
     pub first: File,
@@ -111,7 +113,7 @@ fn is_sound(r: Room, n: usize) -> bool
 }
 
 // What setting a room up answers.
-#[derive(Drop)]
+#[derive(Clone, Copy)]
 pub enum SetUp {
     Done(Room),
     // 20: the shares are above the whole.
@@ -147,7 +149,7 @@ pub fn set_up(b: &[u8], a: usize, c: usize) -> SetUp
 }
 
 // What opening and closing answer.
-#[derive(Drop)]
+#[derive(Clone, Copy)]
 pub enum Changed {
     Done(Room),
     // 19: no such file, not open, or opened twice.
@@ -180,7 +182,7 @@ pub fn close(r: Room, file: u64) -> Changed
 }
 
 // What asking for a byte position of a file answers.
-#[derive(Drop)]
+#[derive(Clone, Copy)]
 pub enum SharedLooked {
     At(Found),
     Nothing,
@@ -217,7 +219,7 @@ pub fn find(l: Layout, b: &[u8], r: Room, file: u64, pos: u64) -> SharedLooked
 }
 
 // What adding a record to a file answers.
-#[derive(Drop)]
+#[derive(Clone, Copy)]
 pub enum SharedAdded {
     Done(Room),
     // 1: the room states more than the buffer holds.

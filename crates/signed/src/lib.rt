@@ -1,5 +1,7 @@
 // Signed reads: bits that were read as an unsigned number, as the signed number that a file means by them. Angles, Canon's
 // positions and the ALEXA 35's whole numbers are signed; in Canon's packs a value counts from 80h or 8000h.
+#![tactic(auto)]
+
 ghost use Rattle.std.specs.Prelude.{◌≡◌};
 ghost use Rattle.signed.specs.Signed.{signed_bits, around};
 

@@ -2,6 +2,8 @@
 // array count at 6 and the array length at 10. The array length must be 1 unless the array count is 0. The array is cut to
 // the sample count; if it then has at least 4 bytes and begins 43 05, the bytes from 4 are payload. The first bad line ends
 // it. A host that wants no copy steps over the lines, and takes each one's part of the element.
+#![tactic(auto)]
+
 ghost use Rattle.std.specs.Prelude.{◌≡◌, ◌+◌, ◌≤◌, ◌<◌, length, take, drop};
 ghost use Rattle.text.specs.Write.{Put};
 ghost use Rattle.st436.specs.Lines.{line_count, of_bytes, payload_length, array_count, line_at, line_step};
@@ -11,7 +13,7 @@ ghost use Rattle.st436.specs.Told.{first_line, whole_told, told, said};
 use parts::number_at;
 
 // A line's payload: where it stands in the element and how long it is, 0 where the line has none.
-#[derive(Drop)]
+#[derive(Clone, Copy)]
 pub struct Line {
     pub at: usize,
     pub len: usize,
@@ -66,7 +68,7 @@ fn payload_length(s: &[u8], at: usize, count: usize) -> usize
 }
 
 // A line that is whole and of bytes, with the place behind it, or none.
-#[derive(Drop)]
+#[derive(Clone, Copy)]
 enum Whole {
     Is(Line, usize),
     No,
@@ -95,14 +97,14 @@ fn line_at(s: &[u8], at: usize) -> Whole
 }
 
 // Where the lines of an element are read, and how many are left.
-#[derive(Drop)]
+#[derive(Clone, Copy)]
 pub struct Lines {
     pub at: usize,
     pub left: usize,
 }
 
 // What a step over the lines finds.
-#[derive(Drop)]
+#[derive(Clone, Copy)]
 pub enum Step {
     // A line's payload, and the cursor past the line.
     Line(Line, Lines),
@@ -178,7 +180,7 @@ fn put_payload(s: &[u8], out: &mut [u8]) -> usize
 }
 
 // What is said of a payload.
-#[derive(Drop)]
+#[derive(Clone, Copy)]
 pub enum Payload {
     // It was put, and is that long.
     Is(usize),

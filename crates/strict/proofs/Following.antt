@@ -1,11 +1,11 @@
 -- The gate goes record by record: a record is passed, and any other step is the last. Assumes nothing.
-use Prim.Native.Nat.{ℕ, ◌+◌, ◌≤◌, ◌<◌}
+use Prim.Native.Nat.{ℕ, ◌≤◌, ◌<◌}
 use mathlib.Core.Path.{◌≡◌, refl, sym, ap, ◌∙◌}
 use mathlib.Core.List.{List}
 use native.Mathlib.Omega.{arith}
 use borrow.Author.Tests.{le-ltb, lt-ltb}
 use lib.ListN.{length}
-use Rattle.steps.specs.Told.{Told, found, nothing, refused}
+use Rattle.steps.specs.Told.{Told, found, refused}
 use Rattle.steps.specs.Listed.{onward, end_from}
 use Rattle.steps.proofs.Laws.{ended}
 use Rattle.strict.specs.declared.Gate.{Gate}

@@ -1,5 +1,7 @@
 // A strict gate: docs/RULES.md, "L7. A strict gate". A file is accepted exactly where records follow each other from 0 to the
 // end, no byte is passed and no length starts with 80h. Else the answer has the place of the first step where this breaks.
+#![tactic(auto)]
+
 ghost use Rattle.std.specs.Prelude.{◌≡◌, ◌+◌, ◌≤◌, length, leb};
 ghost use Rattle.strict.specs.Strict.{strict_step, last_from, strict_of};
 ghost use Rattle.strict.specs.Told.{told, seen_told};
@@ -8,7 +10,7 @@ use lengths::Length;
 use parts::saturating_sub;
 
 // What the gate says of a file. From 10 on a refusal has its place.
-#[derive(Drop)]
+#[derive(Clone, Copy)]
 pub enum Gate {
     Accepted,
     // 1: the end is larger than the buffer.
@@ -26,7 +28,7 @@ pub enum Gate {
 }
 
 // What stands at one place.
-#[derive(Drop)]
+#[derive(Clone, Copy)]
 pub enum Seen {
     // A record, and the place behind it.
     Next(usize),

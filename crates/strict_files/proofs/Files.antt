@@ -10,7 +10,7 @@ use Rattle.steps.specs.Told.{Told, found, nothing, refused}
 use Rattle.strict.specs.Strict.{strict_step, strict_of}
 use Rattle.strict.proofs.Laws.{at-end}
 use Rattle.strict.proofs.Following.{gate_refused, gate_within}
-use Rattle.strict_files.specs.Files.{Follow, StrictFile, StrictFiles}
+use Rattle.strict_files.specs.Files.{Follow, StrictFiles}
 use Rattle.strict_files.proofs.Following.{over-end, refused-here, follow_so, from_so}
 use Rattle.strict_files.proofs.Walked.{follow_counted, counted_follow}
 

@@ -1,11 +1,11 @@
 -- Records that follow each other are the walk's, with no byte passed before any; and where the walk passes none, they follow. Assumes nothing.
-use Prim.Native.Nat.{ℕ, zero, suc, ◌+◌, ◌-◌, ◌≤◌, ◌<◌}
+use Prim.Native.Nat.{ℕ, zero, suc, ◌+◌, ◌-◌, ◌<◌}
 use mathlib.Core.Path.{◌≡◌, refl}
 use mathlib.Core.List.{List, [], ◌∷◌}
 use native.Mathlib.Omega.{arith}
 use Rattle.steps.specs.Tells.{saying, told_from}
 use Rattle.klv.specs.declared.Klv.{Klv}
-use Rattle.klv.specs.Item.{Item, item, klv, past}
+use Rattle.klv.specs.Item.{item, klv, past}
 use Rattle.walk.specs.declared.Turn.{Turn}
 use Rattle.walk.specs.declared.Turn.TheVariants.{Stop, Search, Record}
 use Rattle.walk.specs.declared.Walked.{Walked}
@@ -19,7 +19,7 @@ use Rattle.records.specs.Passed.{counting, last_end}
 use Rattle.records.proofs.Lists as lists
 use Rattle.records.proofs.Lists.{finished-says}
 use Rattle.records.proofs.Stepping.{stepped_on}
-use Rattle.strict_files.specs.Files.{RecordAt, Follow, none, more, NonePassed}
+use Rattle.strict_files.specs.Files.{Follow, none, more, NonePassed}
 use Rattle.strict_files.proofs.Following.{record_up, follow_up}
 
 module _ (s : List ℕ) (e : ℕ) where

@@ -1,5 +1,7 @@
 // A field's figures as text: docs/RULES.md, "L14. Two recordings of one take". Floats stand by their bits, numbers in decimal, and
 // nothing is `-`.
+#![tactic(auto)]
+
 ghost use Rattle.std.specs.Prelude.{◌≡◌, ◌≤◌};
 ghost use Rattle.text.specs.Write.{Put};
 ghost use Rattle.take_figures.specs.Figures.{bits_text, distance_text, stop_text, pair_text, three_text, value_text, figure_text};
@@ -9,7 +11,7 @@ use text::{put_all, put_byte, put_decimal, put_hex};
 use written_numbers::put_number;
 
 // How a field's figures are put.
-#[derive(Drop)]
+#[derive(Clone, Copy)]
 pub enum Form {
     // The bits of an f32, of an f64.
     Single,

@@ -1,19 +1,21 @@
 // Two recorders' frames of one number, compared: docs/RULES.md, "L14. Two recordings of one take". Values are compared field by
 // field; values against none, or a mark on one side, are one difference.
+#![tactic(auto)]
+
 ghost use Rattle.std.specs.Prelude.{◌≡◌};
 ghost use Rattle.take_frames.specs.Compared.{of_mask, values_compared, compared};
 
 use arri_values::Values;
 use frame_values::Frame;
 
-#[derive(Drop)]
+#[derive(Clone, Copy)]
 pub enum Recorder {
     Main,
     Backup,
 }
 
 // The fields that differ, bit k for field k of the header's 19, and the values of both sides.
-#[derive(Drop)]
+#[derive(Clone, Copy)]
 pub struct Both {
     pub fields: u32,
     pub main: Frame,
@@ -21,7 +23,7 @@ pub struct Both {
 }
 
 // What differs at a number.
-#[derive(Drop)]
+#[derive(Clone, Copy)]
 pub enum Kind {
     // Fields of the values that both have.
     Fields(Both),
@@ -34,14 +36,14 @@ pub enum Kind {
 }
 
 // What a recorder has of a frame: its mark and its values.
-#[derive(Drop)]
+#[derive(Clone, Copy)]
 pub struct Recorded {
     pub overlong: bool,
     pub values: Values,
 }
 
 // How two of them compare.
-#[derive(Drop)]
+#[derive(Clone, Copy)]
 pub enum Compared {
     Same,
     Differs(Kind),

@@ -25,15 +25,12 @@ use Rattle.frame_values.specs.declared.TiltRoll.TheVariants as angles
 use Rattle.frame_values.specs.declared.Factors.{Factors}
 use Rattle.frame_values.specs.declared.Factors.TheVariants as factors
 use Rattle.frame_values.specs.declared.Frame.{Frame}
-use Rattle.frame_values.specs.declared.Angles.{Angles}
-use Rattle.frame_values.specs.declared.Colours.{Colours}
 use Rattle.arri_values.specs.declared.Values.{Values}
 use Rattle.arri_values.specs.declared.Values.TheVariants as values
 use Rattle.frame_differences.specs.declared.Said.{Said}
 use Rattle.frame_differences.specs.Said.{nothing, of_single, of_double, of_whole32, of_whole64, of_distance, of_tStop, of_tilt_roll, of_factors, said_of}
 use Rattle.take_frames.specs.declared.Recorded.{Recorded}
-use Rattle.takes.specs.Differences.{differences}
-use Rattle.take_lists.specs.Reports.{Mark, values_say, says_as, frame_says}
+use Rattle.take_lists.specs.Reports.{values_say, says_as, frame_says}
 use Rattle.take_lists.specs.Reports as reports
 use Rattle.take_lists.proofs.Reports.{empty_equal, valued}
 use Rattle.take_lists.specs.Holding.{HoldsSingle, HoldsDouble, HoldsWhole32, HoldsWhole64, HoldsDistance, HoldsTStop, HoldsTiltRoll, HoldsFactors, Determined, HeldValues, HeldAs, AllHeld, SameLists}

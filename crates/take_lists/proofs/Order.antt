@@ -1,11 +1,10 @@
 -- The report is in order of number, then of field. Assumes nothing.
-use Prim.Native.Nat.{ℕ, zero, suc, ◌+◌, ◌*◌, ◌≤◌, ◌/◌, ◌%◌}
+use Prim.Native.Nat.{ℕ, ◌+◌, ◌*◌, ◌≤◌, ◌/◌, ◌%◌}
 use mathlib.Core.Path.{◌≡◌, refl, sym, ap, ◌∙◌}
-use mathlib.Core.List.{List, [], ◌∷◌, map}
-use mathlib.Core.Bool.{Bool, true, false, cond}
+use mathlib.Core.List.{List, [], ◌∷◌}
+use mathlib.Core.Bool.{Bool, true, false}
 use native.Mathlib.Omega.{arith}
 use lib.ListN.{length}
-use Rattle.frame_values.specs.declared.Frame.{Frame}
 use Rattle.frame_differences.specs.declared.Said.{Said}
 use Rattle.frame_differences.specs.Said.{said_of}
 use Rattle.frame_differences.specs.Mask.{same, bit, mask_of}

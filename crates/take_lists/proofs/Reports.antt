@@ -4,7 +4,7 @@ use mathlib.Core.Path.{◌≡◌, refl, sym, ap, ◌∙◌}
 use mathlib.Core.List.{List, [], ◌∷◌, map}
 use mathlib.Core.Bool.{Bool, true, false}
 use native.Mathlib.Omega.{arith}
-use borrow.Author.Tests.{eq-eqb, eqb-true}
+use borrow.Author.Tests.{eqb-true}
 use lib.Dec.{eqb}
 use Rattle.frame_values.specs.declared.Frame.{Frame}
 use Rattle.arri_values.specs.declared.Values.{Values}
@@ -22,7 +22,7 @@ use Rattle.take_frames.specs.declared.Compared.{Compared}
 use Rattle.take_frames.specs.declared.Compared.TheVariants as compare
 use Rattle.take_frames.specs.Compared.{of_mask, values_compared, marked, compared}
 use Rattle.takes.specs.Differences.{only, between, differences, recorded_in}
-use Rattle.take_lists.specs.Reports.{Mark, values_say, says_as, frame_says, EmptyWhenEqual, other, other_kind, exchanged, Exchange}
+use Rattle.take_lists.specs.Reports.{values_say, says_as, frame_says, EmptyWhenEqual, other, other_kind, exchanged, Exchange}
 use Rattle.take_lists.specs.Reports as reports
 
 -- Two frames compare as the same exactly where they say the same

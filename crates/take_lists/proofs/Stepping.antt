@@ -1,5 +1,5 @@
 -- Stepping gives the report. Assumes nothing.
-use Prim.Native.Nat.{ℕ, zero, suc, ◌+◌, ◌-◌, ◌≤◌, ◌<◌, ◌%◌, ◌^◌, min}
+use Prim.Native.Nat.{ℕ, zero, suc, ◌+◌, ◌-◌, ◌≤◌, ◌<◌, ◌^◌, min}
 use mathlib.Core.Path.{◌≡◌, refl, sym, ap, ◌∙◌}
 use mathlib.Core.List.{List, [], ◌∷◌, map}
 use native.Mathlib.Omega.{arith}
@@ -16,7 +16,6 @@ use Rattle.frame_walks.specs.Kinds.{kind, goes_on_at}
 use Rattle.frame_walks.specs.Frames.{carried, Shown, after, showing_as, showing}
 use Rattle.frame_lists.proofs.Lists.{same_frames}
 use Rattle.take_frames.specs.declared.Recorder.TheVariants as recorder
-use Rattle.takes.specs.declared.Difference.{Difference}
 use Rattle.take_frames.specs.declared.Compared.{Compared}
 use Rattle.take_frames.specs.declared.Compared.TheVariants as compare
 use Rattle.takes.specs.declared.Takes.{Takes}

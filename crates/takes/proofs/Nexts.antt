@@ -1,5 +1,5 @@
 -- The next difference goes by what comes of one number. Assumes nothing.
-use Rattle.std.proofs.Common.{◌≡◌, ℕ, ◌<◌, ◌≤◌, List, [], ◌∷◌, length, sym, refl, ap, ◌∙◌, arith, le-ltb, lt-ltb}
+use Rattle.std.proofs.Common.{◌≡◌, ℕ, ◌<◌, ◌≤◌, List, [], ◌∷◌, length, sym, ap, ◌∙◌, arith, le-ltb, lt-ltb}
 use Rattle.frame_walks.specs.declared.FrameElement.{FrameElement}
 use Rattle.frame_walks.specs.Frames.{after}
 use Rattle.takes.specs.declared.Difference.{Difference}
@@ -9,7 +9,6 @@ use Rattle.takes.specs.declared.Takes.{Takes}
 use Rattle.takes.specs.declared.Side.{Side}
 use Rattle.takes.specs.declared.Side.TheVariants as side
 use Rattle.takes.specs.declared.Met.TheVariants as met
-use Rattle.takes.specs.declared.Step.{Step}
 use Rattle.takes.specs.declared.Step.TheVariants as step
 use Rattle.take_frames.specs.Compared.{compared}
 use Rattle.takes.specs.Takes.{recorded_of, behind, side_of, takes, met_as, met_of, on_met, next_of, next_from, left_of, takes_step}

@@ -1,7 +1,7 @@
 -- The frames that are left of a walk: a frame, and those that are left from behind it. Assumes nothing.
 use Rattle.std.proofs.Common.{◌≡◌, ℕ, ◌<◌, ◌≤◌, false, List, [], ◌∷◌, length, sym, refl, ap, ◌∙◌, arith, le-ltb}
 use Rattle.steps.specs.Told.{found, nothing, refused}
-use Rattle.steps.specs.Tells.{Said, tells, passes}
+use Rattle.steps.specs.Tells.{tells, passes}
 use Rattle.steps.specs.Next.{Cursor, cursor}
 use Rattle.steps.specs.Passed.{Passed}
 use Rattle.steps.proofs.Next.{of_next}
@@ -22,7 +22,7 @@ use Rattle.frame_lists.specs.Steps.{frames_from}
 use Rattle.frame_lists.proofs.Steps.{listed_by_steps, nothing_beside}
 use Rattle.arri_values.specs.Values.{values_of}
 use Rattle.takes.specs.declared.Side.TheVariants as side
-use Rattle.takes.specs.Takes.{behind, on_shown, frames_in, left_of, stop_of, side_of}
+use Rattle.takes.specs.Takes.{behind, on_shown, frames_in, left_of, side_of}
 
 -- where a step from a place and a number stands
 abbrev start : ℕ → ℕ → Cursor Carried

@@ -1,32 +1,34 @@
 // Two recordings of one take, frame by frame: docs/RULES.md, "L14. Two recordings of one take". A cursor goes over ARRI's walks of
 // both files at once, and a step answers the next difference. Frames meet by their numbers; places and lengths aren't compared.
+#![tactic(auto)]
+
 ghost use Rattle.std.specs.Prelude.{◌≡◌, ◌≤◌, length};
 ghost use Rattle.takes.specs.Takes.{side_of, left_of, met_of, takes_step};
 
 use frame_walks::{Arri, FrameStep, Place};
 use take_frames::{Compared, Kind, Recorded, Recorder};
 
-#[derive(Drop)]
+#[derive(Clone, Copy)]
 pub struct Difference {
     pub number: u64,
     pub kind: Kind,
 }
 
 // A recorder's next frame, and where its walk goes on.
-#[derive(Drop)]
+#[derive(Clone, Copy)]
 pub struct Stop {
     pub recorded: Recorded,
     pub next: usize,
 }
 
-#[derive(Drop)]
+#[derive(Clone, Copy)]
 pub enum Side {
     Frame(Stop),
     Over,
 }
 
 // Where both walks stand, and the number of the next frame.
-#[derive(Drop)]
+#[derive(Clone, Copy)]
 pub struct Takes {
     pub main: usize,
     pub backup: usize,
@@ -34,7 +36,7 @@ pub struct Takes {
 }
 
 // What comes of one number.
-#[derive(Drop)]
+#[derive(Clone, Copy)]
 pub enum Met {
     Same(Takes),
     Differs(Difference, Takes),
@@ -42,7 +44,7 @@ pub enum Met {
 }
 
 // What a step finds.
-#[derive(Drop)]
+#[derive(Clone, Copy)]
 pub enum Step {
     Differs(Difference, Takes),
     Over,

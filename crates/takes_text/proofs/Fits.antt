@@ -18,7 +18,7 @@ use Rattle.take_figures.specs.declared.Form.TheVariants as form
 use Rattle.takes_text.specs.Names.{focal_length_name, focus_distance_name, t_stop_name, exposure_time_name, shutter_angle_name, tilt_roll_name, exposure_index_name, white_balance_name, nd_density_name, effective_focal_length_name, white_balance_factors_name, focus_lds_name, focus_motor_name, zoom_lds_name, zoom_motor_name, iris_lds_name, iris_motor_name, tint, sensor_rate_name, values_name, over_long_name, only_name}
 use Rattle.take_figures.specs.Figures.{figure_text}
 use Rattle.take_figures.proofs.Sizes.{either, figure_length}
-use Rattle.takes_text.specs.Lines.{has, head_of, line_of, field_line, first_lines, last_lines, yes_of, sided_line, kind_lines, difference_lines}
+use Rattle.takes_text.specs.Lines.{has, line_of, field_line, first_lines, last_lines, yes_of, sided_line, kind_lines, difference_lines}
 
 line-length : (n : ℕ) (name x y : List ℕ) → length x ≤ 50 → length y ≤ 50 → length (line_of n name x y) ≤ 124 + length name
 line-length n name x y h k = simp length-append (omega (arith, length-decimal n))

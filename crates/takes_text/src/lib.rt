@@ -1,6 +1,8 @@
 // A difference of two recordings as lines of text: docs/RULES.md, "L14. Two recordings of one take". A line has the frame's number,
 // the field, and what the main and the backup recorder have: `0 tint 0000000000000000 8000000000000000`. Floats stand by their
 // bits, nothing is `-`; what only one recorder has is `yes` on its side: `1 only yes -`.
+#![tactic(auto)]
+
 ghost use Rattle.std.specs.Prelude.{◌≡◌, ◌<◌};
 ghost use Rattle.text.specs.Write.{Put};
 ghost use Rattle.take_figures.specs.Figures.{figure_text};

@@ -8,7 +8,7 @@ use native.Mathlib.Omega.{arith}
 use native.Mathlib.Decide.{dec_lt}
 use lib.ListN.{length, get_or}
 use Rattle.labels.specs.Label.{agree_but, codes_items}
-use Rattle.labels.proofs.Agreeing.{Agrees, agrees, agrees_so, codes_same}
+use Rattle.labels.proofs.Agreeing.{agrees, agrees_so, codes_same}
 use Rattle.tally.specs.Groups.{same_group}
 use Rattle.tally.specs.Relation.{OneRelation}
 

@@ -1,5 +1,7 @@
 // The tally: docs/RULES.md, "Tally and listing", and "L3. The tally's groups" for which labels group together. Groups come in
 // order of first appearance, at most 64; records that fit none of these count as other.
+#![tactic(auto)]
+
 ghost use Rattle.std.specs.Prelude.{◌≡◌, ◌+◌, ◌≤◌, ◌<◌, length};
 ghost use Rattle.tally.specs.Groups.{same_group, same, groups_of, answer_of, front};
 ghost use Rattle.tally.specs.Adding.{group_of, group_at, Below, Added};
@@ -49,7 +51,7 @@ pub fn group_at(s: &[u8], firsts: &[usize], groups: usize, p: usize) -> u64
 }
 
 // How many groups stand in the lent lists, and how many records fit none.
-#[derive(Drop)]
+#[derive(Clone, Copy)]
 pub struct Tally {
     pub groups: usize,
     pub other: usize,

@@ -1,5 +1,7 @@
 // The groups of a tally as text, as the listing has them: `label 060e2b340101010d0e15000100010000 2` is a
 // group of two records.
+#![tactic(auto)]
+
 ghost use Rattle.std.specs.Prelude.{◌≡◌, length};
 ghost use Rattle.text.specs.Write.{Put};
 ghost use Rattle.tally.specs.Groups.{groups_of};
@@ -51,7 +53,7 @@ fn put_groups(
 }
 
 // Where the groups' text ends, and how many records are in none of them.
-#[derive(Drop)]
+#[derive(Clone, Copy)]
 pub struct Tallied {
     pub at: usize,
     pub other: usize,

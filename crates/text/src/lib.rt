@@ -2,6 +2,8 @@
 //
 // Each `put_` call puts a text at a place, as much of it as there is room for, leaves all else as it was, and answers the
 // place after it. So `at = put_decimal(out, at, 7); at = put_byte(out, at, b';');` puts `7;`.
+#![tactic(auto)]
+
 ghost use Rattle.std.specs.Prelude.{◌≡◌, [], ◌∷◌, ◌+◌, ◌≤◌, ◌<◌, length};
 ghost use Rattle.io.specs.Digits.{hex_digit_ascii};
 ghost use Rattle.text.specs.Write.{decimal_of, hex_of, Put};

@@ -1,5 +1,7 @@
 // The walk over the KLVs of a buffer: docs/RULES.md, "The walk". A finished walk has a buffer and an end; the arriving walk
 // has the bytes that have arrived and a limit. Both are these rules at a place, and a search between places.
+#![tactic(auto)]
+
 ghost use Rattle.std.specs.Prelude.{◌≡◌, ◌≤◌, max, length};
 ghost use Rattle.walk.specs.Rules.{rules};
 ghost use Rattle.walk.specs.declared.Turn.TheVariants as turn;
@@ -19,7 +21,7 @@ fn larger(a: usize, b: usize) -> usize
 }
 
 // What the rules say at a place.
-#[derive(Drop)]
+#[derive(Clone, Copy)]
 pub enum Turn {
     // The step ends here.
     Stop,
@@ -69,7 +71,7 @@ fn look(s: &[u8], end: usize, limit: usize, p: usize) -> Turn
 }
 
 // Where the turns from a place on lead.
-#[derive(Drop)]
+#[derive(Clone, Copy)]
 pub enum Walked {
     // To a record.
     Found(Klv),
@@ -100,21 +102,21 @@ fn searched(s: &[u8], end: usize, limit: usize, from: usize) -> Walked
 }
 
 // Which walk it is: the finished walk up to an end, or the arriving walk within a limit.
-#[derive(Drop)]
+#[derive(Clone, Copy)]
 pub enum Way {
     Finished(usize),
     Arriving(usize),
 }
 
 // Where a walk stands, and where walking last went on.
-#[derive(Drop)]
+#[derive(Clone, Copy)]
 pub struct Cursor {
     pub at: usize,
     pub since: usize,
 }
 
 // What a step of a walk finds.
-#[derive(Drop)]
+#[derive(Clone, Copy)]
 pub enum Step {
     // A record, the bytes passed before it, and the cursor past it.
     Record(Klv, usize, Cursor),

@@ -10,7 +10,6 @@ use Rattle.items.specs.Items.{length_in, item_step, run_of, items_of}
 use Rattle.walk.specs.Rules as walk
 use Rattle.walk.specs.Rules.{rules}
 use Rattle.walk.specs.Walk.{on_turn, turns_at_most, walked, finished_after, finished_by}
-use Rattle.records.specs.Records.{finished}
 use Rattle.worked.specs.LengthForms.{LengthForms, PassedUp}
 
 pub length_forms : LengthForms

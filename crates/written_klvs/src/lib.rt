@@ -1,4 +1,6 @@
 // KLVs written, one at a place or a whole run in shortest form: docs/RULES.md, "L8. Writers".
+#![tactic(auto)]
+
 ghost use Rattle.std.specs.Prelude.{◌≡◌, true, ◌+◌, ◌≤◌, length};
 ghost use Rattle.std.proofs.lemmas.List.Edits.{sets};
 ghost use Rattle.written_lengths.specs.Form.{holds};

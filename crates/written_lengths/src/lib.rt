@@ -1,6 +1,8 @@
 // Lengths written: docs/RULES.md, "L8. Writers". A length in its shortest form, or in a given size of 1 to 9 that holds it; and
 // what every writer answers and leaves behind: refusal 15 where what is to be written has no such form, then 3 where the
 // lent room is less, and a refusal writes nothing.
+#![tactic(auto)]
+
 ghost use Rattle.std.specs.Prelude.{◌≡◌, ◌+◌, ◌≤◌, ◌<◌, length};
 ghost use Rattle.std.proofs.lemmas.List.Edits.{sets};
 ghost use Rattle.lengths.specs.Length.{bound_of};
@@ -11,7 +13,7 @@ use parts::saturating_sub;
 use written_numbers::put_number;
 
 // What a writer answers.
-#[derive(Drop)]
+#[derive(Clone, Copy)]
 pub enum Written {
     // It is written, and this is the place behind it.
     Done(usize),

@@ -1,9 +1,8 @@
 -- A number's bytes: how many, that they are bytes, and that the number and its bytes tell each other.
 use Prim.Native.Nat.{ℕ, zero, suc, ◌+◌, ◌*◌, ◌/◌, ◌%◌, ◌^◌, ◌≤◌, ◌<◌}
 use mathlib.Core.Path.{◌≡◌, refl, sym, ap, ◌∙◌}
-use mathlib.Core.List.{List, [], ◌∷◌, ◌++◌}
+use mathlib.Core.List.{List, [], ◌∷◌}
 use native.Mathlib.Nat.{pow-zero, mul_assoc, add-mul-mod_self_right, mod-eq_of_lt, div-add-mod', mod-lt}
-use native.Mathlib.Numerals.{add-one}
 use native.Mathlib.Omega.{arith}
 use lib.ListN.{length, get_or, take, drop, set, length-append, length-drop}
 use lib.Seq.{sets, take-suc, get_or-drop}
@@ -12,7 +11,6 @@ use borrow.Author.Tests.{le-ltb, lt-ltb}
 use Rattle.parts.specs.Number.{number_at, number_of}
 use Rattle.written_numbers.specs.Number.{bytes_of, placed}
 use Rattle.parts.specs.Bytes.{Bytes}
-use Rattle.parts.proofs.Numbers.{number-below}
 use Rattle.written_numbers.proofs.Stores.{sets_append, set_first, Stands, stands_left, stands_right}
 
 pub bytes-length : (n v : ℕ) → length (bytes_of n v) ≡ n

@@ -1,4 +1,6 @@
 // Numbers written, as `parts` reads them: the first byte is the highest.
+#![tactic(auto)]
+
 ghost use Rattle.std.specs.Prelude.{◌≡◌, ◌+◌, ◌≤◌, length};
 ghost use Rattle.std.proofs.lemmas.List.Edits.{sets};
 ghost use Rattle.written_numbers.specs.Number.{bytes_of, placed};

@@ -1,5 +1,7 @@
 // Canon packs 1 to 20 written from their raw fields: docs/RULES.md, "L8. Writers". They go by the table of fields by which the packs
 // are read; bits of no field are 0.
+#![tactic(auto)]
+
 ghost use Rattle.std.specs.Prelude.{◌≡◌, true, ◌^◌, ◌≤◌, ◌<◌, length};
 ghost use Rattle.canon_groups.specs.Fields.{fields_of};
 ghost use Rattle.written_lengths.specs.Wrote.{Wrote};

@@ -1,4 +1,6 @@
 // Local items with tags and lengths of 2 bytes, of which a set is made, and primers, written: docs/RULES.md, "L8. Writers".
+#![tactic(auto)]
+
 ghost use Rattle.std.specs.Prelude.{◌≡◌, ◌+◌, ◌*◌, ◌≤◌, length};
 ghost use Rattle.std.proofs.lemmas.List.Edits.{sets};
 ghost use Rattle.written_lengths.specs.Wrote.{Wrote};

@@ -1,0 +1,10 @@
+-- `fed_frames::feed` meets its contract. The loop's invariant: the rest of the piece fits, and gives what all of it gives.
+use Rattle.std.proofs.Common.{◌-◌, length}
+use Rattle.fed_frames.proofs.Looking.{Left}
+use Rattle.fed_frames.proofs.feed.Given as goal
+
+abbrev pub invariant-loop-w : goal.invariant-loop-w
+invariant-loop-w l = Left l.w l.piece l.s l.i
+
+abbrev pub decreases-loop-w : goal.decreases-loop-w
+decreases-loop-w l = length l.piece - l.i

@@ -1,0 +1,11 @@
+-- `frame_differences::of_whole32` says each case of the value.
+use Rattle.frame_differences.specs.Said.{of_whole32}
+use Rattle.frame_differences.proofs.of_whole32.Goals as goal
+
+pub returns-in-Is : goal.returns-in-Is
+unfolding of_whole32
+returns-in-Is c = rw (c.in-Is.is, c.one.ensures)
+
+pub returns-in-Nothing : goal.returns-in-Nothing
+unfolding of_whole32
+returns-in-Nothing c = rw (c.in-Nothing.is, c.one-in-Nothing.ensures)

@@ -1,0 +1,7 @@
+-- `frame_walks::Arri::arrive` meets its contract: the step over the arriving walk.
+use Rattle.walk.specs.Told.{refusal}
+use Rattle.frame_walks.proofs.Arri.arrive.Goals as goal
+
+pub returns : goal.returns
+unfolding refusal
+returns c = c.seek.ensures

@@ -1,0 +1,74 @@
+-- `host_fed_states::value_of` meets its contract: a law for each return.
+use Prim.Native.Nat.{◌+◌, ◌≤◌, ◌<◌, ◌^◌}
+use mathlib.Core.Path.{◌≡◌, sym, ap, ◌∙◌}
+use mathlib.Core.List.{◌++◌}
+use native.Mathlib.Omega.{arith}
+use Rattle.lengths.specs.declared.Length.{Length}
+use Rattle.lengths.specs.declared.Length.TheVariants.{Is}
+use Rattle.lengths.specs.Length.{length_at}
+use Rattle.lengths.proofs.Enums.{no_is}
+use Rattle.lengths.proofs.Laws.{Taken, taken}
+use Rattle.host_fed_states.specs.declared.Value.{Value}
+use Rattle.host_fed_states.specs.Places.{bytes_of}
+use Rattle.host_fed_states.specs.Waited.{nowhere, value_of}
+use Rattle.host_fed_states.proofs.Values.{value_none, value_late, value-past, value-is}
+use borrow.Author.Rules.{rules}
+use borrow.Enum.Refused.{opened}
+use Rattle.host_fed_states.proofs.value_of.Goals as goal
+use Rattle.host_fed_states.proofs.value_of.Goals.{Else-limit-value, In-Is, Start}
+
+is-so : (c : goal.In-Is) → length_at (bytes_of 1 c.args.lead ++ bytes_of 8 c.args.eight) 0 ≡ Is c.in-Is.f
+is-so c = sym c.length_of-l.ensures ∙ c.in-Is.is
+
+is-taken : (c : goal.In-Is) → Taken (bytes_of 1 c.args.lead ++ bytes_of 8 c.args.eight) 0 c.in-Is.f.size
+is-taken c = taken _ 0 _ (let h : length_at (bytes_of 1 c.args.lead ++ bytes_of 8 c.args.eight) 0 ≡ Is c.in-Is.f = sym c.length_of-l.ensures ∙ c.in-Is.is in h)
+
+starts : (c : goal.In-Is) → c.args.at + 16 + c.in-Is.f.size ≤ c.args.limit
+starts c = omega (arith, (let h : Taken (bytes_of 1 c.args.lead ++ bytes_of 8 c.args.eight) 0 c.in-Is.f.size = taken _ 0 _ (let h : length_at (bytes_of 1 c.args.lead ++ bytes_of 8 c.args.eight) 0 ≡ Is c.in-Is.f = sym c.length_of-l.ensures ∙ c.in-Is.is in h) in h).most, c.requires)
+
+limit-fits : (c : goal.Start) → c.args.limit < 2 ^ 64
+limit-fits c = search rules
+
+-- what the rules say of it
+says : (c : goal.In-Is) (v : Value) → v ≡ value_of c.args.limit c.args.at c.args.have (Is c.in-Is.f)
+    → v ≡ value_of c.args.limit c.args.at c.args.have (length_at (bytes_of 1 c.args.lead ++ bytes_of 8 c.args.eight) 0)
+says c v e = e ∙ ap (λ (l : Length). value_of c.args.limit c.args.at c.args.have l) (sym (let h : length_at (bytes_of 1 c.args.lead ++ bytes_of 8 c.args.eight) 0 ≡ Is c.in-Is.f = sym c.length_of-l.ensures ∙ c.in-Is.is in h))
+
+pub returns-in_default : goal.returns-in_default
+returns-in_default c =
+    let a = c.args in
+    c.nowhere.ensures ∙ value_none a.limit a.at a.have _ (no_is _ (opened c.in_default.in_default-own.keys2)) ∙ ap (λ (l : Length). value_of a.limit a.at a.have l) c.length_of-l.ensures
+
+pub overflow_add-behind : goal.overflow_add-behind
+overflow_add-behind c = omega (arith, (is-taken (goal.at.overflow_add-behind c).In-Is).most)
+
+pub overflow_add-value : goal.overflow_add-value
+overflow_add-value c = omega (arith, starts (goal.at.overflow_add-value c).In-Is, limit-fits (goal.at.overflow_add-value c).Start)
+
+pub overflow_sub-limit : goal.overflow_sub-limit
+overflow_sub-limit c = omega (arith, starts (goal.at.overflow_sub-limit c).In-Is)
+
+within : (c : goal.Else-limit-value) → c.args.at + 16 + c.in-Is.f.size + c.in-Is.f.value ≤ c.args.limit
+within c = omega (arith, c.if-limit-value.false, (let h : c.args.at + 16 + c.in-Is.f.size ≤ c.args.limit = omega (arith, (let h : Taken (bytes_of 1 c.args.lead ++ bytes_of 8 c.args.eight) 0 c.in-Is.f.size = taken _ 0 _ (let h : length_at (bytes_of 1 c.args.lead ++ bytes_of 8 c.args.eight) 0 ≡ Is c.in-Is.f = sym c.length_of-l.ensures ∙ c.in-Is.is in h) in h).most, c.requires) in h))
+
+pub returns-then-limit-value : goal.returns-then-limit-value
+returns-then-limit-value c =
+    says (goal.at.returns-then-limit-value c).In-Is _ (c.nowhere-then-limit-value.ensures ∙ value_late _ _ _ _ (omega (arith, c.if-limit-value.true, starts (goal.at.returns-then-limit-value c).In-Is)))
+
+pub overflow_add-due : goal.overflow_add-due
+overflow_add-due c = omega (arith, within (goal.at.overflow_add-due c).Else-limit-value, limit-fits (goal.at.overflow_add-due c).Start)
+
+pub returns-then-due-have : goal.returns-then-due-have
+returns-then-due-have c = says (goal.at.returns-then-due-have c).In-Is _ (c.nowhere-then-due-have.ensures ∙ value-past _ _ _ _ (omega (arith, c.if-due-have.true)))
+
+pub overflow_add-next : goal.overflow_add-next
+overflow_add-next c = omega (arith, within (goal.at.overflow_add-next c).Else-limit-value, limit-fits (goal.at.overflow_add-next c).Start)
+
+pub returns : goal.returns
+returns c =
+    let at = c.args.at in
+    let size = c.in-Is.f.size in
+    let len = c.in-Is.f.value in
+    let y : at + (16 + size) + len ≡ at + (16 + size + len) = omega arith in
+    let z : at + (16 + size) ≡ at + 16 + size = omega arith in
+    says (goal.at.returns c).In-Is _ (rw (y, z) (value-is _ _ _ _ (within (goal.at.returns c).Else-limit-value) (omega (arith, c.if-due-have.false))))

@@ -1,0 +1,11 @@
+-- `host_frame_places::red_slot` answers each case of the value.
+use Rattle.host_frame_places.specs.Places.{red_slot}
+use Rattle.host_frame_places.proofs.red_slot.Goals as goal
+
+pub returns-in-Are : goal.returns-in-Are
+unfolding red_slot
+returns-in-Are c = rw c.in-Are.is c.double.ensures
+
+pub returns-in-Nothing : goal.returns-in-Nothing
+unfolding red_slot
+returns-in-Nothing c = rw c.in-Nothing.is c.nothing.ensures

@@ -1,0 +1,11 @@
+-- `labels::agree_but` meets its contract. The loop's invariant: `agree` says whether the bytes passed agree.
+use Prim.Native.Nat.{◌-◌, ◌≤◌}
+use mathlib.Core.Path.{◌≡◌}
+use Rattle.labels.specs.Label.{first_agree}
+use Rattle.labels.proofs.agree_but.Given as goal
+
+abbrev pub invariant-loop-i : goal.invariant-loop-i
+invariant-loop-i l = (l.i ≤ 16) × (l.agree ≡ first_agree l.x l.y l.z l.a l.b l.i)
+
+abbrev pub decreases-loop-i : goal.decreases-loop-i
+decreases-loop-i l = 16 - l.i

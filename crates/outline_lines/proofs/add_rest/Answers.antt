@@ -1,0 +1,22 @@
+-- `outline_lines::add_rest` adds the level, the word and the count, or nothing where nothing is left.
+use native.Mathlib.Omega.{arith}
+use Rattle.outline_lines.specs.Lines.{rest_line}
+use Rattle.outline_lines.proofs.Adding.{◌▸◌, added_none, rest-none, rest_some}
+use Rattle.outline_lines.proofs.add_rest.Goals as goal
+
+pub returns-then-n-eq0 : goal.returns-then-n-eq0
+returns-then-n-eq0 c = rest-none _ _ (omega arith) (added_none _ _ (omega arith) (omega arith))
+
+-- LOST slice-aggregate-add-all
+-- slice-aggregate-add-all : tie.Need-slice-aggregate-add-all
+-- slice-aggregate-add-all c = search rules
+
+-- LOST slice-aggregate-add-all-2
+-- slice-aggregate-add-all-2 : tie.Need-slice-aggregate-add-all-2
+-- slice-aggregate-add-all-2 c = search rules
+
+pub returns : goal.returns
+unfolding rest_line
+returns c =
+    rest_some _ _ c.if-n-eq0.false
+    (c.add_decimal-a.ensures ▸ c.add_all-b.ensures ▸ c.add_decimal-c.ensures ▸ c.add_all.ensures)

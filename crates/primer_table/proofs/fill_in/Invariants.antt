@@ -1,0 +1,11 @@
+-- `primer_table::fill_in` meets its contract: the first i entries have filled the table.
+use Prim.Native.Nat.{◌-◌, ◌≤◌}
+use mathlib.Core.Path.{◌≡◌}
+use Rattle.primer_table.specs.Table.{filled_by}
+use Rattle.primer_table.proofs.fill_in.Given as goal
+
+abbrev pub invariant-loop-i : goal.invariant-loop-i
+invariant-loop-i l = (l.i ≤ l.n) × (l.table ≡ filled_by l.s l.i l.initial.table)
+
+abbrev pub decreases-loop-i : goal.decreases-loop-i
+decreases-loop-i l = l.n - l.i

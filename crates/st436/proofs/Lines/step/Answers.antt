@@ -1,0 +1,14 @@
+-- `st436::Lines::step` meets its contract: it is the line at the cursor, with one line less to come.
+use mathlib.Core.Path.{sym}
+use native.Mathlib.Omega.{arith}
+use Rattle.st436.proofs.Laws.{step-over, step_bad, step_line}
+use Rattle.st436.proofs.Lines.step.Goals as goal
+
+pub returns-then-self-eq0 : goal.returns-then-self-eq0
+returns-then-self-eq0 c = sym (step-over _ _ _ c.if-self-eq0.true)
+
+pub returns-in_default : goal.returns-in_default
+returns-in_default c = sym (step_bad _ _ _ (sym (rw c.in_default.is at c.line_at-w.ensures)))
+
+pub returns : goal.returns
+returns c = sym (step_line _ _ _ _ _ (omega arith) (sym (rw c.in-Is.is at c.line_at-w.ensures)))
