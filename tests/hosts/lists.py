@@ -1,4 +1,4 @@
-"""What the receivers have to say of bytes: by klvlist and klvstream, which rt check has built, and by the library's finished and
+"""What the receivers have to say of bytes: by klvlist and klvstream, which library/program has built, and by the library's finished and
 arriving walks, which are none of the fed ones that the receivers use."""
 
 import ctypes
