@@ -12,14 +12,6 @@ is_key c = c.begins.ensures
 is-item : (c : goal.After-begins-then-begins) → c.begins-then-begins.result ≡ beginning arri_items (take 4 (drop 8 c.args.key.now))
 is-item c = c.begins-then-begins.ensures ∙ ap (beginning arri_items) c.part.ensures
 
--- LOST slice-aggregate-begins
--- slice-aggregate-begins : tie.Need-slice-aggregate-begins
--- slice-aggregate-begins c = search rules
-
--- LOST slice-aggregate-begins-2
--- slice-aggregate-begins-2 : tie.Need-slice-aggregate-begins-2
--- slice-aggregate-begins-2 c = search rules
-
 pub returns-then-begins-2 : goal.returns-then-begins-2
 unfolding number_in
 returns-then-begins-2 c =

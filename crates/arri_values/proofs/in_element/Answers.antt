@@ -3,10 +3,6 @@ use mathlib.Core.Path.{sym, ◌∙◌}
 use Rattle.arri_values.specs.Values.{element_of}
 use Rattle.arri_values.proofs.in_element.Goals as goal
 
--- LOST slice-aggregate-agree-but
--- slice-aggregate-agree-but : tie.Need-slice-aggregate-agree-but
--- slice-aggregate-agree-but c = search rules
-
 pub returns-then-agree_but : goal.returns-then-agree_but
 unfolding element_of
 returns-then-agree_but c = rw (sym c.agree_but.ensures ∙ c.if-agree_but.true, c.of_alexa35.ensures)

@@ -25,10 +25,6 @@ next_item-requires c = (c.requires, run-over _ _ _ _ (sym (rw (c.in_default.is, 
 pub returns-in_default : goal.returns-in_default
 returns-in_default c = c.next_item.ensures
 
--- LOST slice-aggregate-same-label
--- slice-aggregate-same-label : tie.Need-slice-aggregate-same-label
--- slice-aggregate-same-label c = search rules
-
 pub returns-then-same_label : goal.returns-then-same_label
 returns-then-same_label c =
     (run_value _ _ _ _ _ (is-run (goal.at.returns-then-same_label c).In-Item) (sym (is-label (goal.at.returns-then-same_label c).After-same_label) ∙ c.if-same_label.true), (item-fits _ _ _ _ _ _ (is-run (goal.at.returns-then-same_label c).In-Item)).goes_on)

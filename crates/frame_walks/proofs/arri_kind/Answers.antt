@@ -3,17 +3,9 @@ use Rattle.std.proofs.Common.{sym, ◌∙◌}
 use Rattle.frame_walks.specs.Kinds.{arri_kind}
 use Rattle.frame_walks.proofs.arri_kind.Goals as goal
 
--- LOST slice-aggregate-same-label
--- slice-aggregate-same-label : tie.Need-slice-aggregate-same-label
--- slice-aggregate-same-label c = search rules
-
 pub returns-then-same_label : goal.returns-then-same_label
 unfolding arri_kind
 returns-then-same_label c = rw (sym c.same_label.ensures ∙ c.if-same_label.true)
-
--- LOST slice-aggregate-agree-but
--- slice-aggregate-agree-but : tie.Need-slice-aggregate-agree-but
--- slice-aggregate-agree-but c = search rules
 
 pub returns-then-agree_but : goal.returns-then-agree_but
 unfolding arri_kind

@@ -6,16 +6,8 @@ use Rattle.frame_walks.proofs.canon_kind.Goals as goal
 pub returns-then-len-gt-LONGEST_GIVEN : goal.returns-then-len-gt-LONGEST_GIVEN
 returns-then-len-gt-LONGEST_GIVEN c = c.sony_kind.ensures ∙ sym (canon_long _ _ (omega arith))
 
--- LOST slice-aggregate-same-label
--- slice-aggregate-same-label : tie.Need-slice-aggregate-same-label
--- slice-aggregate-same-label c = search rules
-
 pub returns-then-same_label : goal.returns-then-same_label
 returns-then-same_label c = sym (canon_package _ _ (omega arith) (sym c.same_label.ensures ∙ c.if-same_label.true))
-
--- LOST slice-aggregate-same-label-2
--- slice-aggregate-same-label-2 : tie.Need-slice-aggregate-same-label-2
--- slice-aggregate-same-label-2 c = search rules
 
 pub returns-then-same_label-2 : goal.returns-then-same_label-2
 returns-then-same_label-2 c =

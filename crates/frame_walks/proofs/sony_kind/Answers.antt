@@ -3,10 +3,6 @@ use Rattle.std.proofs.Common.{sym, ◌∙◌}
 use Rattle.frame_walks.specs.Kinds.{sony_kind}
 use Rattle.frame_walks.proofs.sony_kind.Goals as goal
 
--- LOST slice-aggregate-agree-but
--- slice-aggregate-agree-but : tie.Need-slice-aggregate-agree-but
--- slice-aggregate-agree-but c = search rules
-
 pub returns-then-agree_but : goal.returns-then-agree_but
 unfolding sony_kind
 returns-then-agree_but c = rw (sym c.agree_but.ensures ∙ c.if-agree_but.true)

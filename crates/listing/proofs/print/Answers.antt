@@ -2,10 +2,6 @@
 use Rattle.listing.specs.Listing.{printed}
 use Rattle.listing.proofs.print.Goals as goal
 
--- LOST slice-aggregate-put-all
--- slice-aggregate-put-all : tie.Need-slice-aggregate-put-all
--- slice-aggregate-put-all c = search rules
-
 pub returns-then-more : goal.returns-then-more
 unfolding printed
 returns-then-more c =

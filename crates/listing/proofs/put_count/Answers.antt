@@ -3,10 +3,6 @@ use Rattle.text.proofs.Putting.{◌▹◌}
 use Rattle.listing.specs.Listing.{count_line}
 use Rattle.listing.proofs.put_count.Goals as goal
 
--- LOST slice-aggregate-put-all
--- slice-aggregate-put-all : tie.Need-slice-aggregate-put-all
--- slice-aggregate-put-all c = search rules
-
 pub returns : goal.returns
 unfolding count_line
 returns c = c.put_all-a.ensures ▹ c.put_decimal-b.ensures ▹ c.put_byte.ensures

@@ -7,9 +7,5 @@ use Rattle.listing.proofs.put_other.Goals as goal
 pub returns-then-n-eq0 : goal.returns-then-n-eq0
 returns-then-n-eq0 c = other_none _ _ _ c.if-n-eq0.true
 
--- LOST slice-aggregate-put-all
--- slice-aggregate-put-all : tie.Need-slice-aggregate-put-all
--- slice-aggregate-put-all c = search rules
-
 pub returns : goal.returns
 returns c = rw (sym (other-some _ c.if-n-eq0.false)) (c.put_all-a.ensures ▹ c.put_decimal-b.ensures ▹ c.put_byte.ensures)

@@ -3,10 +3,6 @@ use Rattle.text.proofs.Putting.{◌▹◌}
 use Rattle.listing.specs.Listing.{tally_lines}
 use Rattle.listing.proofs.put_tally.Goals as goal
 
--- LOST slice-aggregate-put-tally
--- slice-aggregate-put-tally : tie.Need-slice-aggregate-put-tally
--- slice-aggregate-put-tally c = search rules
-
 pub returns : goal.returns
 unfolding tally_lines
 returns c =

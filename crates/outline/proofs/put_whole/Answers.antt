@@ -4,18 +4,10 @@ use Rattle.outline.proofs.Printing.{printed-long, printed-done, printed-refused}
 use borrow.Enum.Refused.{opened}
 use Rattle.outline.proofs.put_whole.Goals as goal
 
--- LOST slice-aggregate-put-all
--- slice-aggregate-put-all : tie.Need-slice-aggregate-put-all
--- slice-aggregate-put-all c = search rules
-
 pub returns-then-more : goal.returns-then-more
 returns-then-more c =
     let all = printed-long _ _ _ c.if-more.true c.put_all.ensures (omega arith) in
     record { out_after = all.0; prefix_len = all.1 }
-
--- LOST slice-aggregate-put-all-2
--- slice-aggregate-put-all-2 : tie.Need-slice-aggregate-put-all-2
--- slice-aggregate-put-all-2 c = search rules
 
 pub returns-in_default : goal.returns-in_default
 returns-in_default c =

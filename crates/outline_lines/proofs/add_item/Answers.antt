@@ -3,18 +3,6 @@ use Rattle.outline_lines.specs.Lines.{item_line}
 use Rattle.outline_lines.proofs.Adding.{◌▸◌}
 use Rattle.outline_lines.proofs.add_item.Goals as goal
 
--- LOST slice-aggregate-add-all
--- slice-aggregate-add-all : tie.Need-slice-aggregate-add-all
--- slice-aggregate-add-all c = search rules
-
--- LOST slice-aggregate-add-all-2
--- slice-aggregate-add-all-2 : tie.Need-slice-aggregate-add-all-2
--- slice-aggregate-add-all-2 c = search rules
-
--- LOST slice-aggregate-add-all-3
--- slice-aggregate-add-all-3 : tie.Need-slice-aggregate-add-all-3
--- slice-aggregate-add-all-3 c = search rules
-
 pub returns : goal.returns
 unfolding item_line
 returns c =

@@ -7,14 +7,6 @@ use Rattle.outline_lines.proofs.add_rest.Goals as goal
 pub returns-then-n-eq0 : goal.returns-then-n-eq0
 returns-then-n-eq0 c = rest-none _ _ (omega arith) (added_none _ _ (omega arith) (omega arith))
 
--- LOST slice-aggregate-add-all
--- slice-aggregate-add-all : tie.Need-slice-aggregate-add-all
--- slice-aggregate-add-all c = search rules
-
--- LOST slice-aggregate-add-all-2
--- slice-aggregate-add-all-2 : tie.Need-slice-aggregate-add-all-2
--- slice-aggregate-add-all-2 c = search rules
-
 pub returns : goal.returns
 unfolding rest_line
 returns c =

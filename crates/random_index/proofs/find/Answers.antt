@@ -21,10 +21,6 @@ returns-then-size-lt21 c = sym (size_small _ (omega arith) _ (size_of (goal.at.r
 pub returns-then-s-size : goal.returns-then-s-size
 returns-then-s-size c = sym (size_above _ (omega arith) _ (size_of (goal.at.returns-then-s-size c).After-number_at-size) (omega arith) (omega arith))
 
--- LOST slice-aggregate-same-label
--- slice-aggregate-same-label : tie.Need-slice-aggregate-same-label
--- slice-aggregate-same-label c = search rules
-
 pub returns-then-not-same_label : goal.returns-then-not-same_label
 returns-then-not-same_label c =
     sym

@@ -12,10 +12,6 @@ use Rattle.search.proofs.key_begins.Goals as goal
 pub returns-then-a-q : goal.returns-then-a-q
 returns-then-a-q c = begins-past _ _ (omega arith)
 
--- LOST slice-aggregate-begins
--- slice-aggregate-begins : tie.Need-slice-aggregate-begins
--- slice-aggregate-begins c = search rules
-
 pub returns : goal.returns
 unfolding key_begins
 returns c =
