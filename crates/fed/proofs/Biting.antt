@@ -1,4 +1,5 @@
 -- Taking the bytes behind a key's start at once. Assumes nothing.
+use Rattle.std.specs.Prelude.{Err, Ok, Result}
 use Prim.Native.Nat.{ℕ, ◌+◌, ◌-◌, ◌≤◌, ◌<◌, min, max}
 use mathlib.Core.Path.{◌≡◌, refl, sym, ap, ◌∙◌}
 use mathlib.Core.List.{List, [], ◌∷◌}
@@ -11,8 +12,8 @@ use types.Run.{OneOf}
 use denote.Enum.Declared.{tag_of}
 use Rattle.steps.specs.Told.{nothing}
 use Rattle.lengths.specs.declared.Field.{Field}
-use Rattle.lengths.specs.declared.Length.{Length}
-use Rattle.lengths.specs.declared.Length.TheVariants.{Is, Cut, None}
+use Rattle.lengths.specs.declared.NoLength.{NoLength}
+use Rattle.lengths.specs.declared.NoLength.TheVariants.{Cut, Invalid}
 use Rattle.lengths.specs.Length.{length_at}
 use Rattle.lengths.proofs.Laws as lengths
 use Rattle.klv.specs.declared.Klv.{Klv}
@@ -37,25 +38,25 @@ use Rattle.fed.specs.contracts.Answer.{the_type}
 -- With how many bytes something comes of a length
 
 module _ (st : State) where
-  pub due_cut : due_of st Cut ≡ 0
+  pub due_cut : due_of st (Err Cut) ≡ 0
   unfolding due_of
   due_cut = refl
 
-  pub due_none : due_of st None ≡ 17
+  pub due_none : due_of st (Err Invalid) ≡ 17
   unfolding due_of
   due_none = refl
 
   module _ (f : Field) where
-    pub due_fits : st.at + 16 + f.size + f.value ≤ st.limit → due_of st (Is f) ≡ 16 + f.size + f.value
+    pub due_fits : st.at + 16 + f.size + f.value ≤ st.limit → due_of st (Ok f) ≡ 16 + f.size + f.value
     unfolding due_of
     due_fits h = simp (le-leb _ _ h)
 
-    pub due_late : st.limit < st.at + 16 + f.size + f.value → due_of st (Is f) ≡ 16 + f.size
+    pub due_late : st.limit < st.at + 16 + f.size + f.value → due_of st (Ok f) ≡ 16 + f.size
     unfolding due_of
     due_late h = simp (lt-leb _ _ h)
 
 -- no length is read before a byte behind the label has come
-none-behind : (st : State) → st.have < 17 → length_of st ≡ None → ⊥
+none-behind : (st : State) → st.have < 17 → length_of st ≡ Err Invalid → ⊥
 none-behind st h e =
     let z : st.have - 16 ≡ 0 = omega arith in
     let c = ap (λ (n : ℕ). length_at (take n st.ber) 0) z ∙ lengths.past [] 0 (omega arith) in
@@ -129,17 +130,17 @@ module _ (st : State) (piece : List ℕ) (i : ℕ) (inside : i < length piece) (
       }
 
   -- which of the two, by the length behind the last byte that is kept
-  pub comes_never : length_of kept ≡ Cut → reaches st (drop i piece) i ≡ reaches (having kept (st.have + (length piece - i))) (drop (i + (length piece - i)) piece) (i + (length piece - i))
+  pub comes_never : length_of kept ≡ Err Cut → reaches st (drop i piece) i ≡ reaches (having kept (st.have + (length piece - i))) (drop (i + (length piece - i)) piece) (i + (length piece - i))
   comes_never x = comes_cut st piece i four few more (omega arith) enough (omega arith) fits reaches reaches_bytewise i x
 
-  module _ (l : Length) (is : length_of kept ≡ l) (some : l ≡ Cut → ⊥) (e : ℕ) (due : e ≡ max (due_of kept l) (st.have + 1)) where
+  module _ (l : Result Field NoLength) (is : length_of kept ≡ l) (some : l ≡ Err Cut → ⊥) (e : ℕ) (due : e ≡ max (due_of kept l) (st.have + 1)) where
     pub due_late_enough : 17 ≤ e
     due_late_enough = go l is due some
       where
-        go : (l : Length) → length_of kept ≡ l → e ≡ max (due_of kept l) (st.have + 1) → (l ≡ Cut → ⊥) → 17 ≤ e
-        go Cut x d s = absurd (s refl)
-        go None x d s = omega (arith, due_none kept)
-        go (Is f) x d s =
+        go : (l : Result Field NoLength) → length_of kept ≡ l → e ≡ max (due_of kept l) (st.have + 1) → (l ≡ Err Cut → ⊥) → 17 ≤ e
+        go (Err Cut) x d s = absurd (s refl)
+        go (Err Invalid) x d s = omega (arith, due_none kept)
+        go (Ok f) x d s =
             let c = come kept f x in
             by_cases (dec_lt st.limit (st.at + 16 + f.size + f.value)) (λ h. omega (arith, due_late kept f h, c.some)) (λ h. omega (arith, due_fits kept f (omega arith), c.some))
 
@@ -147,14 +148,14 @@ module _ (st : State) (piece : List ℕ) (i : ℕ) (inside : i < length piece) (
         → reaches st (drop i piece) i ≡ reaches (having kept (st.have + (length piece - i))) (drop (i + (length piece - i)) piece) (i + (length piece - i))
     comes_later h = go l is due some
       where
-        go : (l : Length) → length_of kept ≡ l → e ≡ max (due_of kept l) (st.have + 1) → (l ≡ Cut → ⊥)
+        go : (l : Result Field NoLength) → length_of kept ≡ l → e ≡ max (due_of kept l) (st.have + 1) → (l ≡ Err Cut → ⊥)
             → reaches st (drop i piece) i ≡ reaches (having kept (st.have + more)) (drop (i + more) piece) (i + more)
-        go Cut x d s = absurd (s refl)
-        go None x d s = absurd (omega (arith, due_none kept, some-behind x))
+        go (Err Cut) x d s = absurd (s refl)
+        go (Err Invalid) x d s = absurd (omega (arith, due_none kept, some-behind x))
           where
-            some-behind : length_of kept ≡ None → 17 ≤ st.have + few
+            some-behind : length_of kept ≡ Err Invalid → 17 ≤ st.have + few
             some-behind y = by_cases (dec_lt (st.have + few) 17) (λ o. absurd (none-behind kept o y)) (λ o. omega arith)
-        go (Is f) x d s =
+        go (Ok f) x d s =
             let c = come kept f x in
             by_cases (dec_lt st.limit (st.at + 16 + f.size + f.value)) (λ o. absurd (omega (arith, due_late kept f o, c.behind)))
             (λ o. comes_waits st piece i four few more (omega arith) enough (omega arith) fits reaches reaches_bytewise i f x (omega arith) (omega (arith, due_fits kept f (omega arith))))
@@ -166,13 +167,13 @@ module _ (st : State) (piece : List ℕ) (i : ℕ) (inside : i < length piece) (
         b : 17 ≤ e
         b = due_late_enough
 
-        go : (l : Length) → length_of kept ≡ l → e ≡ max (due_of kept l) (st.have + 1) → (l ≡ Cut → ⊥)
+        go : (l : Result Field NoLength) → length_of kept ≡ l → e ≡ max (due_of kept l) (st.have + 1) → (l ≡ Err Cut → ⊥)
             → reaches st (drop i piece) i ≡ up_to (λ s. reaches s (drop (i + (e - st.have)) piece) (i + (e - st.have))) (i + (e - st.have)) (turned (having kept e) (turn_of (having kept e)))
-        go Cut x d s = absurd (s refl)
-        go None x d s =
+        go (Err Cut) x d s = absurd (s refl)
+        go (Err Invalid) x d s =
             comes_none st piece i four few more (omega arith) enough (omega arith) fits reaches reaches_bytewise i e (omega (arith, due_none kept)) w b x
             (by_cases (dec_lt (st.have + few) 17) (λ o. absurd (none-behind kept o x)) (λ o. omega arith)) (d ∙ rw (due_none kept))
-        go (Is f) x d s =
+        go (Ok f) x d s =
             by_cases (dec_lt st.limit (st.at + 16 + f.size + f.value))
             (λ o. comes_late st piece i four few more (omega arith) enough (omega arith) fits reaches reaches_bytewise i e (omega arith) w b f x o (d ∙ rw (due_late kept f o)))
             (λ o. comes_record st piece i four few more (omega arith) enough (omega arith) fits reaches reaches_bytewise i e (omega arith) w b f x (omega arith) (d ∙ rw (due_fits kept f (omega arith))))

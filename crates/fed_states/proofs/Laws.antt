@@ -1,4 +1,5 @@
 -- Laws of the definitions of `specs/`. Assumes nothing.
+use Rattle.std.specs.Prelude.{Err, Ok, Result}
 use Prim.Native.Nat.{ℕ, ◌+◌, ◌-◌, ◌≤◌, ◌<◌}
 use mathlib.Core.Path.{◌≡◌, refl}
 use mathlib.Core.Bool.{Bool, true, false, ◌&&◌, false≢true}
@@ -12,8 +13,8 @@ use borrow.Author.Tests.{le-ltb, lt-ltb, le-leb, lt-leb, leb-true}
 use Rattle.steps.specs.Told.{found, nothing, refused}
 use Rattle.labels.specs.Label.{label_at}
 use Rattle.lengths.specs.declared.Field.{Field}
-use Rattle.lengths.specs.declared.Length.{Length}
-use Rattle.lengths.specs.declared.Length.TheVariants.{Is, Cut, None}
+use Rattle.lengths.specs.declared.NoLength.{NoLength}
+use Rattle.lengths.specs.declared.NoLength.TheVariants.{Cut, Invalid}
 use Rattle.lengths.proofs.Laws.{taken}
 use Rattle.fed_states.specs.declared.State.{State}
 use Rattle.fed_states.specs.declared.Shut.{Shut}
@@ -38,7 +39,7 @@ pub record Come (st : State) (size : ℕ) : Type 0 where
   pub few : size ≤ 9
   pub behind : 16 + size ≤ st.have
 
-pub come : (st : State) (f : Field) → length_of st ≡ Is f → Come st f.size
+pub come : (st : State) (f : Field) → length_of st ≡ Ok f → Come st f.size
 come st f l =
     let t = taken (take (st.have - 16) st.ber) 0 f l in
     let n = length-take (st.have - 16) st.ber in
@@ -87,11 +88,11 @@ module _ (s : List ℕ) (at : ℕ) where
 -- Closing
 
 module _ (st : State) where
-  pub ends_is : (f : Field) → ends_by st (Is f) ≡ found (record { from = st.at + (16 + f.size); end = st.have - (16 + f.size) }) (shut st)
+  pub ends_is : (f : Field) → ends_by st (Ok f) ≡ found (record { from = st.at + (16 + f.size); end = st.have - (16 + f.size) }) (shut st)
   unfolding ends_by
   ends_is f = refl
 
-  pub ends_clean : (l : Length) → (l ≡ Cut) ⊎ (l ≡ None) → ends_by st l ≡ nothing (shut st)
+  pub ends_clean : (l : Result Field NoLength) → (l ≡ Err Cut) ⊎ (l ≡ Err Invalid) → ends_by st l ≡ nothing (shut st)
   unfolding ends_by
   ends_clean l h = ⊎_elim (λ e. rw e) (λ e. rw e) h
 

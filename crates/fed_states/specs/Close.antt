@@ -1,8 +1,9 @@
 -- Closing a fed walker: docs/RULES.md, "L2. A walker fed from the socket".
-use Rattle.std.specs.Prelude.{ℕ, ◌+◌, ◌-◌, cond, not, ◌&&◌, ltb}
+use Rattle.std.specs.Prelude.{ℕ, ◌+◌, ◌-◌, cond, not, ◌&&◌, ltb, Err, Ok, Result}
 use Rattle.steps.specs.Told.{ToldAt, found, nothing, refused}
-use Rattle.lengths.specs.declared.Length.{Length}
-use Rattle.lengths.specs.declared.Length.TheVariants.{Is, Cut, None}
+use Rattle.lengths.specs.declared.Field.{Field}
+use Rattle.lengths.specs.declared.NoLength.{NoLength}
+use Rattle.lengths.specs.declared.NoLength.TheVariants.{Cut, Invalid}
 use Rattle.fed_states.specs.declared.State.{State}
 use Rattle.fed_states.specs.declared.Shut.{Shut}
 use Rattle.fed_states.specs.declared.Ending.{Ending}
@@ -24,10 +25,10 @@ abbrev pub shut_told : Shut → ToldAt State Rest
 shut_told s = ending_told s.state s.ending
 
 -- in a value: its start, and how many of its bytes have come
-unfoldable pub ends_by : State → Length → ToldAt State Rest
-ends_by st (Is f) = found (record { from = st.at + (16 + f.size); end = st.have - (16 + f.size) }) (shut st)
-ends_by st Cut = nothing (shut st)
-ends_by st None = nothing (shut st)
+unfoldable pub ends_by : State → Result Field NoLength → ToldAt State Rest
+ends_by st (Ok f) = found (record { from = st.at + (16 + f.size); end = st.have - (16 + f.size) }) (shut st)
+ends_by st (Err Cut) = nothing (shut st)
+ends_by st (Err Invalid) = nothing (shut st)
 
 -- 5: closed already, or before a known end
 unfoldable pub close_of : State → ToldAt State Rest

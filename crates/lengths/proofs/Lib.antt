@@ -1,4 +1,3 @@
 pub mod Laws
 pub mod Forms
 pub mod Spans
-pub mod Enums

@@ -1,8 +1,9 @@
+use Rattle.std.specs.Prelude.{Err}
 use Prim.Native.Nat.{ℕ, ◌+◌, ◌-◌, ◌≤◌, min, max}
 use mathlib.Core.Path.{◌≡◌, sym, ap, ◌∙◌}
 use native.Mathlib.Omega.{arith}
 use lib.ListN.{length}
-use Rattle.lengths.specs.declared.Length.TheVariants.{Cut}
+use Rattle.lengths.specs.declared.NoLength.TheVariants.{Cut}
 use Rattle.lengths.proofs.Enums.{no_cut}
 use Rattle.fed_states.specs.declared.State.{State}
 use Rattle.fed_states.specs.State.{length_of}
@@ -26,7 +27,7 @@ is-length c = sym (c.length_of-l.ensures ∙ ap (λ (s : State). length_of s) (l
     ∙ ap (filled c.args.st c.args.piece.now c.args.i) (c.lesser.ensures ∙ ap (λ (m : ℕ). min m (length c.args.piece.now - c.args.i)) c.saturating_sub.ensures) in h))
 
 -- in the arm where the length is not cut: the byte of which something comes
-not-cut : (c : goal.In_default) → c.length_of-l.result ≡ Cut → ⊥
+not-cut : (c : goal.In_default) → c.length_of-l.result ≡ Err Cut → ⊥
 not-cut c = no_cut _ (opened c.in_default.in_default-own.keys2)
 
 due-is : (c : goal.After-larger-e) → c.larger-e.result ≡ max (due_of (kept c.args.st c.args.piece.now c.args.i c.requires.i_in_bounds c.requires.i_bound c.requires.le_have) c.length_of-l.result) ((c.args.st).have + 1)
@@ -36,7 +37,7 @@ due-is c = c.larger-e.ensures ∙ ap (λ (m : ℕ). max m ((c.args.st).have + 1)
 enough : (c : goal.After-larger-e) → 17 ≤ c.larger-e.result
 enough c =
     due_late_enough c.args.st c.args.piece.now c.args.i c.requires.i_in_bounds c.requires.i_bound c.requires.le_have _ (let h : length_of (kept c.args.st c.args.piece.now c.args.i c.requires.i_in_bounds c.requires.i_bound c.requires.le_have) ≡ c.length_of-l.result = sym (c.length_of-l.ensures ∙ ap (λ (s : State). length_of s) (let h : c.fill-s.result ≡ (kept c.args.st c.args.piece.now c.args.i c.requires.i_in_bounds c.requires.i_bound c.requires.le_have) = c.fill-s.ensures
-    ∙ ap (filled c.args.st c.args.piece.now c.args.i) (c.lesser.ensures ∙ ap (λ (m : ℕ). min m (length c.args.piece.now - c.args.i)) c.saturating_sub.ensures) in h)) in h) (let h : c.length_of-l.result ≡ Cut → ⊥ = no_cut _ (opened c.in_default.in_default-own.keys2) in h) _ (let h : c.larger-e.result ≡ max (due_of (kept c.args.st c.args.piece.now c.args.i c.requires.i_in_bounds c.requires.i_bound c.requires.le_have) c.length_of-l.result) ((c.args.st).have + 1) = c.larger-e.ensures ∙ ap (λ (m : ℕ). max m ((c.args.st).have + 1)) (c.due.ensures ∙ ap (λ (s : State). due_of s c.length_of-l.result) (let h : c.fill-s.result ≡ (kept c.args.st c.args.piece.now c.args.i c.requires.i_in_bounds c.requires.i_bound c.requires.le_have) = c.fill-s.ensures
+    ∙ ap (filled c.args.st c.args.piece.now c.args.i) (c.lesser.ensures ∙ ap (λ (m : ℕ). min m (length c.args.piece.now - c.args.i)) c.saturating_sub.ensures) in h)) in h) (let h : c.length_of-l.result ≡ Err Cut → ⊥ = no_cut _ (opened c.in_default.in_default-own.keys2) in h) _ (let h : c.larger-e.result ≡ max (due_of (kept c.args.st c.args.piece.now c.args.i c.requires.i_in_bounds c.requires.i_bound c.requires.le_have) c.length_of-l.result) ((c.args.st).have + 1) = c.larger-e.ensures ∙ ap (λ (m : ℕ). max m ((c.args.st).have + 1)) (c.due.ensures ∙ ap (λ (s : State). due_of s c.length_of-l.result) (let h : c.fill-s.result ≡ (kept c.args.st c.args.piece.now c.args.i c.requires.i_in_bounds c.requires.i_bound c.requires.le_have) = c.fill-s.ensures
     ∙ ap (filled c.args.st c.args.piece.now c.args.i) (c.lesser.ensures ∙ ap (λ (m : ℕ). min m (length c.args.piece.now - c.args.i)) c.saturating_sub.ensures) in h)) in h)
 
 pub overflow_sub-more : goal.overflow_sub-more

@@ -1,7 +1,7 @@
+use Rattle.std.specs.Prelude.{Ok}
 use mathlib.Core.Path.{◌≡◌, sym, ap, ◌∙◌}
 use mathlib.Core.Logic.{⊎_elim}
 use native.Mathlib.Omega.{arith}
-use Rattle.lengths.specs.declared.Length.TheVariants.{Is}
 use Rattle.lengths.proofs.Enums.{no_is, no_cut}
 use Rattle.fed_states.specs.State.{length_of}
 use Rattle.fed_states.proofs.Laws.{Come, come}
@@ -11,11 +11,11 @@ use borrow.Enum.Refused.{opened}
 use Rattle.fed.proofs.due.Goals as goal
 use Rattle.fed.proofs.due.Goals.{In-Is}
 
-is-length : (c : goal.In-Is) → length_of c.args.st ≡ Is c.in-Is.f
+is-length : (c : goal.In-Is) → length_of c.args.st ≡ Ok c.in-Is.f
 is-length c = sym c.requires.l_value ∙ c.in-Is.is
 
 is-come : (c : goal.In-Is) → Come c.args.st c.in-Is.f.size
-is-come c = come _ _ (let h : length_of c.args.st ≡ Is c.in-Is.f = sym c.requires.l_value ∙ c.in-Is.is in h)
+is-come c = come _ _ (let h : length_of c.args.st ≡ Ok c.in-Is.f = sym c.requires.l_value ∙ c.in-Is.is in h)
 
 pub returns-in-Cut : goal.returns-in-Cut
 returns-in-Cut c = rw c.in-Cut.is (sym (due_cut c.args.st))

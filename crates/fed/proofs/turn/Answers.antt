@@ -1,7 +1,8 @@
+use Rattle.std.specs.Prelude.{Err, Ok}
 use mathlib.Core.Path.{◌≡◌, sym, ◌∙◌}
 use mathlib.Core.Logic.{⊎_elim}
 use native.Mathlib.Omega.{arith}
-use Rattle.lengths.specs.declared.Length.TheVariants.{Is, None}
+use Rattle.lengths.specs.declared.NoLength.TheVariants.{Invalid}
 use Rattle.lengths.proofs.Enums.{no_is, no_cut}
 use Rattle.fed_states.specs.State.{length_of}
 use Rattle.fed_states.proofs.Laws.{Come, come}
@@ -11,14 +12,14 @@ use Rattle.fed.proofs.turn.Goals as goal
 use Rattle.fed.proofs.turn.Goals.{In-Is, In_default-l}
 
 -- in the arm where there is no length, and where there is one
-is_none : (c : goal.In_default-l) → length_of c.args.st ≡ None
+is_none : (c : goal.In_default-l) → length_of c.args.st ≡ Err Invalid
 is_none c = sym c.length_of-l.ensures ∙ ⊎_elim (λ e. absurd (no_cut _ (opened c.in_default.in_default-own.keys2) e)) (λ e. e) (no_is _ (opened c.in_default-l.in_default-l-own.keys2))
 
-is-length : (c : goal.In-Is) → length_of c.args.st ≡ Is c.in-Is.f
+is-length : (c : goal.In-Is) → length_of c.args.st ≡ Ok c.in-Is.f
 is-length c = sym c.length_of-l.ensures ∙ c.in-Is.is
 
 is-come : (c : goal.In-Is) → Come c.args.st c.in-Is.f.size
-is-come c = come _ _ (let h : length_of c.args.st ≡ Is c.in-Is.f = sym c.length_of-l.ensures ∙ c.in-Is.is in h)
+is-come c = come _ _ (let h : length_of c.args.st ≡ Ok c.in-Is.f = sym c.length_of-l.ensures ∙ c.in-Is.is in h)
 
 pub returns-in-Cut : goal.returns-in-Cut
 returns-in-Cut c = c.silent.ensures ∙ sym (turn_cut _ (sym c.length_of-l.ensures ∙ c.in-Cut.is))

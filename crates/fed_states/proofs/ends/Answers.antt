@@ -1,6 +1,6 @@
+use Rattle.std.specs.Prelude.{Ok}
 use mathlib.Core.Path.{◌≡◌, sym, ap, ◌∙◌}
 use native.Mathlib.Omega.{arith}
-use Rattle.lengths.specs.declared.Length.TheVariants.{Is}
 use Rattle.lengths.proofs.Enums.{no_is}
 use Rattle.fed_states.specs.State.{length_of}
 use Rattle.fed_states.specs.Close.{ends_by}
@@ -10,11 +10,11 @@ use Rattle.fed_states.proofs.ends.Goals as goal
 use Rattle.fed_states.proofs.ends.Goals.{In-Is}
 
 -- in the arm where the length is one
-is-length : (c : goal.In-Is) → length_of c.args.st ≡ Is c.in-Is.f
+is-length : (c : goal.In-Is) → length_of c.args.st ≡ Ok c.in-Is.f
 is-length c = sym c.length_of-l.ensures ∙ c.in-Is.is
 
 is-come : (c : goal.In-Is) → Come c.args.st c.in-Is.f.size
-is-come c = come _ _ ((let h : length_of c.args.st ≡ Is c.in-Is.f = sym c.length_of-l.ensures ∙ c.in-Is.is in h))
+is-come c = come _ _ ((let h : length_of c.args.st ≡ Ok c.in-Is.f = sym c.length_of-l.ensures ∙ c.in-Is.is in h))
 
 pub returns-in_default : goal.returns-in_default
 returns-in_default c = sym (ap (ends_by _) (sym c.length_of-l.ensures) ∙ ends_clean _ _ (no_is _ (opened c.in_default.in_default-own.keys2)))

@@ -1,8 +1,8 @@
 -- `items::item_at` meets its contract: each return is one case of the definition.
+use Rattle.std.specs.Prelude.{Ok}
 use Prim.Native.Nat.{◌+◌}
 use mathlib.Core.Path.{◌≡◌, sym, ◌∙◌}
 use native.Mathlib.Omega.{arith}
-use Rattle.lengths.specs.declared.Length.TheVariants.{Is}
 use Rattle.lengths.proofs.Laws.{Taken}
 use Rattle.items.specs.Items.{length_in}
 use Rattle.items.proofs.Laws.{taken_in, item-end, item_else, item-short, item-whole}
@@ -10,7 +10,7 @@ use borrow.Enum.Refused.{opened}
 use Rattle.items.proofs.item_at.Goals as goal
 use Rattle.items.proofs.item_at.Goals.{After-struct_known-1}
 
-is-length : (c : goal.After-struct_known-1) → length_in c.args.ber c.args.s.now (c.args.at + c.args.key) ≡ Is c.in-Is.f
+is-length : (c : goal.After-struct_known-1) → length_in c.args.ber c.args.s.now (c.args.at + c.args.key) ≡ Ok c.in-Is.f
 is-length c = sym c.length_in-l.ensures ∙ c.in-Is.is
 
 is-long : (c : goal.After-struct_known-1) → Taken c.args.s.now (c.args.at + c.args.key) c.in-Is.f.size

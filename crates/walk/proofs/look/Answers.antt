@@ -1,11 +1,11 @@
 -- `walk::look` meets its contract: each return is one of the rules' cases.
+use Rattle.std.specs.Prelude.{Ok}
 use Prim.Native.Nat.{◌+◌}
 use mathlib.Core.Path.{◌≡◌, sym, ◌∙◌}
 use mathlib.Core.Bool.{true}
 use mathlib.Core.Logic.{⊎_elim}
 use native.Mathlib.Omega.{arith}
 use Rattle.labels.specs.Label.{key_at}
-use Rattle.lengths.specs.declared.Length.TheVariants.{Is}
 use Rattle.lengths.specs.Length.{length_at}
 use Rattle.lengths.proofs.Laws.{Taken, taken}
 use Rattle.lengths.proofs.Enums.{no_is, no_cut}
@@ -18,7 +18,7 @@ use Rattle.walk.proofs.look.Goals.{Else-not-key_at, In-Is}
 is_key : (c : goal.Else-not-key_at) → key_at c.args.s.now c.args.p ≡ true
 is_key c = sym c.key_at.ensures ∙ c.if-not-key_at.false
 
-is-length : (c : goal.In-Is) → length_at c.args.s.now (c.args.p + 16) ≡ Is c.in-Is.f
+is-length : (c : goal.In-Is) → length_at c.args.s.now (c.args.p + 16) ≡ Ok c.in-Is.f
 is-length c = sym c.read-l.ensures ∙ c.in-Is.is
 
 is-long : (c : goal.In-Is) → Taken c.args.s.now (c.args.p + 16) c.in-Is.f.size
