@@ -4,20 +4,16 @@ use Prim.Native.Nat.{ℕ, ◌+◌, ◌-◌, ◌≤◌, ◌<◌}
 use mathlib.Core.Path.{◌≡◌, refl, sym, ◌∙◌}
 use mathlib.Core.List.{List, [], ◌∷◌}
 use mathlib.Core.Bool.{Bool, true, false}
-use mathlib.Core.Logic.{by_cases, ⊎_elim}
+use mathlib.Core.Logic.{by_cases}
 use native.Mathlib.Omega.{arith}
 use native.Mathlib.Decide.{dec_lt}
 use borrow.Author.Tests.{le-leb, lt-leb}
 use lib.ListN.{length}
-use types.Run.{OneOf}
-use denote.Enum.Declared.{tag_of}
 use Rattle.steps.specs.Told.{found, nothing}
 use Rattle.lengths.specs.declared.Field.{Field}
 use Rattle.lengths.specs.declared.NoLength.{NoLength}
 use Rattle.lengths.specs.declared.NoLength.TheVariants.{Cut, Invalid}
-use Rattle.lengths.specs.contracts.Length.{the_type}
 use Rattle.lengths.proofs.Laws.{Taken, taken, taken-two}
-use Rattle.lengths.proofs.Enums.{no_is}
 use Rattle.klv.specs.Item.{Item, item, klv, past}
 use Rattle.items.specs.Items.{length_in, by_value, by_length, item_step}
 
@@ -41,9 +37,10 @@ module _ (key : ℕ) (ber : Bool) (s : List ℕ) (p : ℕ) where
     unfolding item_step by_length
     item-none l = simp (le-leb _ _ h, l)
 
-    -- the `else` of `let Length::Is(f) = l else { .. }`
-    pub item_else : (l : Result Field NoLength) → l ≡ length_in ber s (p + key) → OneOf (1 ∷ 2 ∷ []) (tag_of the_type l) → item_step key ber s p ≡ nothing p
-    item_else l e o = ⊎_elim (λ (z : l ≡ Err Cut). item-cut (sym e ∙ z)) (λ (z : l ≡ Err Invalid). item-none (sym e ∙ z)) (no_is l o)
+    -- where no length stands
+    pub item_else : (e : NoLength) → length_in ber s (p + key) ≡ Err e → item_step key ber s p ≡ nothing p
+    item_else Cut l = item-cut l
+    item_else Invalid l = item-none l
 
     module _ (f : Field) (l : length_in ber s (p + key) ≡ Ok f) where
       pub item-short : length s - (p + key + f.size) < f.value → item_step key ber s p ≡ nothing p
