@@ -1,5 +1,5 @@
 -- The steps' answers from where the turns lead, and that two answers which say the same are the same. Assumes nothing.
-use Rattle.std.specs.Prelude.{Result, Ok, Err}
+use Rattle.std.specs.Prelude.{Result, Ok, Err, IsOk}
 use Prim.Native.Nat.{ℕ, zero, suc, ◌-◌, ◌≤◌, ◌<◌, max}
 use mathlib.Core.Path.{◌≡◌, refl, sym, ap, ◌∙◌}
 use mathlib.Core.List.{List}
@@ -187,6 +187,12 @@ unfolding passing
 passing_never k (found i r) never n q x = let z : ◌≡◌ {A = ℕ} 0 1 = cc in omega arith
 passing_never k (nothing r) never n q x = let z : ◌≡◌ {A = ℕ} 0 1 = cc in omega arith
 passing_never k (refused m r) never n q x = never m r refl
+
+-- so a step within the buffer has an answer
+pub step-ok : (s : List ℕ) (k : Cursor ℕ) (r : Result Step WalkError) → told s k r ≡ finished_passing s (length s) k → IsOk r
+step-ok s k (Ok x) e = refl
+step-ok s k (Err ShortBuffer) e = absurd (passing_never k _ (not-refused s (length s) k.at (omega arith)) _ _ e)
+step-ok s k (Err OverLimit) e = absurd (passing_never k _ (not-refused s (length s) k.at (omega arith)) _ _ e)
 
 abbrev place : Cursor ℕ → at.Cursor
 place c = record { at = c.at; since = c.carried }
