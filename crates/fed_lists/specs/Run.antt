@@ -11,7 +11,7 @@ use Rattle.klv.specs.declared.Klv.{Klv}
 use Rattle.klv.specs.Item.{klv, past, Item}
 use Rattle.fed_states.specs.declared.State.{State}
 use Rattle.fed_states.specs.State.{opened, shut}
-use Rattle.fed_states.specs.Close.{Rest}
+use Rattle.fed_states.specs.declared.Rest.{Rest}
 use Rattle.steps.specs.Passed.{Passed}
 use Rattle.fed_bytes.specs.Feed.{after, feed_of}
 

@@ -10,7 +10,8 @@ use Rattle.fed_states.specs.declared.Shut.{Shut}
 use Rattle.fed_states.specs.declared.Ending.{Ending}
 use Rattle.fed_states.specs.declared.Ending.TheVariants.{Clean, Again, Refused}
 use Rattle.fed_states.specs.State.{length_of, sound_of}
-use Rattle.fed_states.specs.Close.{Rest, ending_told, shut_told, ends_by, close_of}
+use Rattle.fed_states.specs.declared.Rest.{Rest}
+use Rattle.fed_states.specs.Close.{ending_told, shut_told, ends_by, close_of}
 use Rattle.fed_states.proofs.Laws.{and_left, sound_tells, come}
 use Rattle.klvstream.specs.Named.{Named}
 

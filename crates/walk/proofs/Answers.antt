@@ -194,6 +194,11 @@ step-ok s k (Ok x) e = refl
 step-ok s k (Err ShortBuffer) e = absurd (passing_never k _ (not-refused s (length s) k.at (omega arith)) _ _ e)
 step-ok s k (Err OverLimit) e = absurd (passing_never k _ (not-refused s (length s) k.at (omega arith)) _ _ e)
 
+pub arrive-ok : (limit : ℕ) (a : List ℕ) (k : Cursor ℕ) (r : Result Step WalkError) → length a ≤ limit → told a k r ≡ arriving_passing limit a k → IsOk r
+arrive-ok limit a k (Ok x) h e = refl
+arrive-ok limit a k (Err ShortBuffer) h e = absurd (passing_never k _ (not-past_limit limit a k.at h) _ _ e)
+arrive-ok limit a k (Err OverLimit) h e = absurd (passing_never k _ (not-past_limit limit a k.at h) _ _ e)
+
 abbrev place : Cursor ℕ → at.Cursor
 place c = record { at = c.at; since = c.carried }
 

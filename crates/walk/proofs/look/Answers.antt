@@ -1,15 +1,13 @@
 -- `walk::look` meets its contract: each return is one of the rules' cases.
-use Rattle.std.specs.Prelude.{Ok, Err}
+use Rattle.std.specs.Prelude.{Ok}
 use Prim.Native.Nat.{◌+◌}
-use mathlib.Core.Path.{◌≡◌, refl, sym, ap, ◌∙◌}
-use mathlib.Core.Bool.{Bool, true, false, true≢false}
+use mathlib.Core.Path.{◌≡◌, sym, ◌∙◌}
+use mathlib.Core.Bool.{true}
 use native.Mathlib.Omega.{arith}
 use Rattle.labels.specs.Label.{key_at}
-use Rattle.lengths.specs.declared.NoLength.{NoLength}
-use Rattle.lengths.specs.declared.NoLength.TheVariants.{Cut, Invalid}
-use Rattle.lengths.specs.contracts.NoLengthPartialEq.TheImpl.{ghosts}
 use Rattle.lengths.specs.Length.{length_at}
 use Rattle.lengths.proofs.Laws.{Taken, taken}
+use Rattle.lengths.proofs.Errors.{cut-so, invalid-so}
 use Rattle.walk.proofs.Laws.{rule_end, rule_no_key, rule_cut, rule_none, rule_record, rule_wait, rule_late}
 use Rattle.walk.proofs.look.Goals as goal
 use Rattle.walk.proofs.look.Goals.{Else-not-key_at, In-Ok}
@@ -24,25 +22,15 @@ is-length c = sym c.read-l.ensures ∙ c.in-Ok.is
 is-long : (c : goal.In-Ok) → Taken c.args.s.now (c.args.p + 16) c.in-Ok.f.size
 is-long c = taken _ _ _ (is-length c)
 
--- what `==` tells of the reason why there is no length
-module _ (same : NoLength → NoLength → Bool) where
-  is_cut : same Invalid Cut ≡ false → (e : NoLength) → same e Cut ≡ true → e ≡ Cut
-  is_cut h Cut x = refl
-  is_cut h Invalid x = absurd (true≢false (sym x ∙ h))
-
-  is_invalid : same Cut Cut ≡ true → (e : NoLength) → same e Cut ≡ false → e ≡ Invalid
-  is_invalid h Cut x = absurd (true≢false (sym h ∙ x))
-  is_invalid h Invalid x = refl
-
 pub returns-then-eq : goal.returns-then-eq
 returns-then-eq c =
-    let e = is_cut ghosts.eq refl _ (sym (rw c.in_default.is at c.eq.ensures) ∙ c.if-eq.true) in
-    sym (rule_cut _ _ _ _ (omega arith) (is_key (goal.at.returns-then-eq c).Else-not-key_at) (sym c.read-l.ensures ∙ c.in_default.is ∙ ap Err e))
+    sym (rule_cut _ _ _ _ (omega arith) (is_key (goal.at.returns-then-eq c).Else-not-key_at) (sym c.read-l.ensures ∙ cut-so _ (sym c.eq.ensures ∙ c.if-eq.true)))
 
 pub returns-in_default : goal.returns-in_default
 returns-in_default c =
-    let e = is_invalid ghosts.eq refl _ (sym (rw c.in_default.is at c.eq.ensures) ∙ c.if-eq.false) in
-    sym (rule_none _ _ _ _ (omega arith) (is_key (goal.at.returns-in_default c).Else-not-key_at) (sym c.read-l.ensures ∙ c.in_default.is ∙ ap Err e))
+    sym
+    (rule_none _ _ _ _ (omega arith) (is_key (goal.at.returns-in_default c).Else-not-key_at)
+    (sym c.read-l.ensures ∙ invalid-so _ _ c.in_default.is (sym c.eq.ensures ∙ c.if-eq.false)))
 
 pub returns-then-end-lt17 : goal.returns-then-end-lt17
 returns-then-end-lt17 c = sym (rule_end _ _ _ _ (omega arith))
