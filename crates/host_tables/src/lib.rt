@@ -18,7 +18,6 @@ ghost use Rattle.host_tables.specs.Sequence.{spot_of, position_found, position_f
 use arri_block::Block;
 use canon_sequence::{Identifier, Position};
 use canon_sets::{Metadata, Package};
-use header::Header;
 use primer::Entry;
 use st436::{Lines, Payload, Step};
 
@@ -30,8 +29,8 @@ pub extern "C" fn brine_header(s: &[u8], out: &mut [u64; 3]) -> u32
 {
     let h = header::find(s);
     match h {
-        Header::Part(p) => *out = [1, p.at as u64, p.len as u64],
-        Header::Nothing => *out = [0, 0, 0],
+        Some(p) => *out = [1, p.at as u64, p.len as u64],
+        None => *out = [0, 0, 0],
     }
     0
 }
