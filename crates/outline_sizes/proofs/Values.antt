@@ -9,6 +9,7 @@ use native.Mathlib.Omega.{arith}
 use native.Mathlib.Decide.{dec_lt}
 use lib.ListN.{length, drop, get_or, length-append, length-take, length-drop}
 use lib.Dec.{leb, eqb}
+use Rattle.std.specs.Prelude.{Option, Some, None}
 use Rattle.parts.specs.Answer.{Answer, is, none}
 use Rattle.steps.specs.Told.{Told, found, nothing, refused}
 use Rattle.steps.proofs.Laws.{Moves}
@@ -24,8 +25,6 @@ use Rattle.items.proofs.Laws.{item-fits}
 use Rattle.items.proofs.Lists.{item_moves}
 use Rattle.labels.specs.Label.{codes_items}
 use Rattle.outline_lines.specs.Lines.{rest_of}
-use Rattle.outline_text.specs.declared.Opened.{Opened}
-use Rattle.outline_text.specs.declared.Opened.TheVariants.{Leaf, Set}
 use Rattle.outline_text.specs.Tree.{Outline, shown}
 use Rattle.outline_text.specs.Opening.{coding, coding_by, set_of, is_run}
 use Rattle.outline_text.specs.Outline.{outline_from, items_outline, in_set, run_opens, set_opens, run_outline, set_outline}
@@ -107,11 +106,11 @@ pub data Usual : Coding → Type 0 where
   two : (ber : Bool) → Usual (coding 2 ber)
   one : Usual (coding 1 false)
 
-usual : (label : List ℕ) (c : Coding) → set_of label ≡ Set c → Usual c
+usual : (label : List ℕ) (c : Coding) → set_of label ≡ Some c → Usual c
 unfolding set_of coding_by
 usual label c e = go (codes_items label) (eqb (get_or label 5 0) 0x53) (eqb (get_or label 5 0) 0x13) e
   where
-    go : (a b d : Bool) → cond a (Set (cond b (coding 2 false) (cond d (coding 2 true) (coding 1 false)))) Leaf ≡ Set c → Usual c
+    go : (a b d : Bool) → cond a (Some (cond b (coding 2 false) (cond d (coding 2 true) (coding 1 false)))) None ≡ Some c → Usual c
     go true true d e = let z : coding 2 false ≡ c = cc in rw z at (two false)
     go true false true e = let z : coding 2 true ≡ c = cc in rw z at (two true)
     go true false false e = let z : coding 1 false ≡ c = cc in rw z at one
@@ -169,9 +168,9 @@ module _ (limit digits more : ℕ) (w : ℕ → ℕ) (k : Pays limit digits more
     label_paid zero h sets = omega arith
     label_paid (suc left) h sets = go (set_of i.key) refl
       where
-        go : (o : Opened) → set_of i.key ≡ o → inside_length (level + 1) (run_opens (suc left) s i) ≤ w i.klv.len + more
-        go Leaf x = rw x (omega arith)
-        go (Set c) x =
+        go : (o : Option Coding) → set_of i.key ≡ o → inside_length (level + 1) (run_opens (suc left) s i) ≤ w i.klv.len + more
+        go None x = rw x (omega arith)
+        go (Some c) x =
             rw x (inside_paid s i (set_outline left c (value_of s i)) (level + 1)
             (sets left refl (level + 1) c (value_of s i) (usual i.key c x) (omega arith) value_small))
 
