@@ -18,13 +18,17 @@ use Rattle.walk.specs.Passed.{finished_passing, arriving_passing}
 abbrev pub cursor_of : at.Cursor → Cursor ℕ
 cursor_of c = cursor c.at c.since
 
+-- 1: the end is larger than the buffer; 2: more arrived bytes than the limit
+abbrev pub refused_by : WalkError → ℕ
+refused_by ShortBuffer = 1
+refused_by OverLimit = 2
+
 abbrev pub told : List ℕ → Cursor ℕ → Result Step WalkError → ToldAt (Cursor ℕ) (Passed Item)
 told s k (Ok (step.Record r m c)) = found (record { it = item 16 s r; passed = m }) (cursor_of c)
 told s k (Ok (step.Rests c)) = nothing (cursor_of c)
-told s k (Err ShortBuffer) = refused 1 k
-told s k (Err OverLimit) = refused 2 k
+told s k (Err e) = refused (refused_by e) k
 
--- A step of either walk, and its refusal. 1: the end is larger than the buffer; 2: more arrived bytes than the limit
+-- A step of either walk, and its refusal
 
 unfoldable pub step_on : Way → List ℕ → Cursor ℕ → ToldAt (Cursor ℕ) (Passed Item)
 step_on (Finished e) s k = finished_passing s e k

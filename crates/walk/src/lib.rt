@@ -124,7 +124,7 @@ pub enum Way {
 
 impl Way {
     // The end of the bytes that it walks, and the limit within which a value that is missing is waited for: none in a finished walk.
-    fn bounds(self, s: &[u8]) -> Result<(usize, usize), WalkError>
+    pub fn bounds(self, s: &[u8]) -> Result<(usize, usize), WalkError>
         ensures { result ≡ bounds_of self s.now }
     {
         match self {
