@@ -103,8 +103,8 @@ module _ (next : Item → ℕ) (on : Onward next) (most : (i : Item) → next i 
   closing-is = go place ∙ ap (closing st a) (sym same-awaited)
     where
       go : Place → ends_by st (length_of st) ≡ closing st a (awaited limit a st.at)
-      go (near h) = rw (awaited-short limit a st.at (omega (arith, full))) (ends_clean st (length_of st) (inl (no_length h)))
-      go (length_cut h c k l) = rw (awaited-cut limit a st.at (omega (arith, full)) k l) (ends_clean st (length_of st) (inl c))
+      go (near h) = rw (awaited-short limit a st.at (omega (arith, full))) (ap (ends_by st) (no_length h) ∙ ends_clean st Cut)
+      go (length_cut h c k l) = rw (awaited-cut limit a st.at (omega (arith, full)) k l) (ap (ends_by st) c ∙ ends_clean st Cut)
       go (value-cut h f c k l m n) =
           let x : length a - (st.at + 16 + f.size) ≡ st.have - (16 + f.size) = omega (arith, full) in
           let y : st.at + 16 + f.size ≡ st.at + (16 + f.size) = omega arith in

@@ -1,12 +1,12 @@
--- `fed_pieces::refusal` meets its contract: its tests are the definition's.
+-- `fed_pieces::admit` meets its contract: its tests are the definition's.
 use mathlib.Core.Path.{◌≡◌, sym, ◌∙◌}
 use mathlib.Core.Bool.{true}
 use native.Mathlib.Omega.{arith}
 use Rattle.fed_states.specs.State.{sound_of}
 use Rattle.fed_states.proofs.Laws.{sound_tells}
 use Rattle.fed_pieces.proofs.Laws.{refusal-closed, refusal-past, refusal-none}
-use Rattle.fed_pieces.proofs.refusal.Goals as goal
-use Rattle.fed_pieces.proofs.refusal.Goals.{Else-not-sound}
+use Rattle.fed_pieces.proofs.admit.Goals as goal
+use Rattle.fed_pieces.proofs.admit.Goals.{Else-not-sound}
 
 -- behind the first test the state is sound
 is-sound : (c : goal.Else-not-sound) → sound_of c.args.st ≡ true
