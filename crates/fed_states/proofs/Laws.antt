@@ -22,7 +22,7 @@ use Rattle.fed_states.specs.declared.FedError.{FedError}
 use Rattle.fed_states.specs.declared.FedError.TheVariants.{TooMuch, Closed}
 use Rattle.fed_states.specs.State.{shut, whole_label, length_of, sound_of}
 use Rattle.fed_states.specs.declared.Rest.{Rest}
-use Rattle.fed_states.specs.Close.{rest_told, close_told, ends_by, close_of}
+use Rattle.fed_states.specs.Close.{refused_by, rest_told, close_told, ends_by, close_of}
 
 -- Both of two tests
 
@@ -114,3 +114,8 @@ module _ (st : State) where
     pub close-end : st.known ≡ true → st.limit ≤ st.at + st.have → close_of st ≡ ends_by st (length_of st)
     unfolding close_of
     close-end k h = rw (s, k, le-ltb _ _ h)
+
+-- no refusal has the number 0
+pub refused-some : (e : FedError) → refused_by e ≡ 0 → ⊥
+refused-some TooMuch z = omega arith
+refused-some Closed z = omega arith

@@ -4,7 +4,7 @@
 
 ghost use Rattle.std.specs.Prelude.{◌≡◌, true, false, ◌+◌, ◌≤◌};
 ghost use Rattle.fed_states.specs.State.{opened, sought, gone_on, shut, whole_label, length_of, sound_of};
-ghost use Rattle.fed_states.specs.Close.{rest_told, close_told, ends_by, close_of};
+ghost use Rattle.fed_states.specs.Close.{refused_by, rest_told, close_told, ends_by, close_of};
 
 use lengths::{Field, NoLength};
 
@@ -131,6 +131,18 @@ pub enum FedError {
     TooMuch,
     // 5: the walk is closed, or its known end has not come.
     Closed,
+}
+
+impl FedError {
+    // Its number: docs/RULES.md, "What a call can say".
+    pub fn number(self) -> u32
+        ensures { result ≡ refused_by self }
+    {
+        match self {
+            FedError::TooMuch => 2,
+            FedError::Closed => 5,
+        }
+    }
 }
 
 // Where a new walk is to be fed from, and its known end.

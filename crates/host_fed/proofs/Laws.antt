@@ -10,10 +10,7 @@ use Rattle.fed_states.specs.declared.State.{State}
 use Rattle.fed_states.specs.declared.Rest.{Rest}
 use Rattle.fed_bytes.specs.Feed.{Taken, feed_of}
 use Rattle.host_numbers.specs.Numbers.{mark}
-use Rattle.host_fed_states.specs.Places.{is_marked, state_of, state_places}
-use Rattle.host_fed_states.proofs.Searches.{Starts}
-use Rattle.host_fed.specs.declared.Start.{Start}
-use Rattle.host_fed.specs.Begun.{Begun}
+use Rattle.host_fed_states.specs.Places.{state_places}
 use Rattle.host_fed.specs.Places.{state_after, label_after, record_places, feed_places, Answers, closed, close_places}
 
 -- Feeding: the status, and the state, the label and the places after it
@@ -38,16 +35,6 @@ module _ (t : ToldAt Taken (Passed Item)) (state label out : List ℕ) where
   pub is-refused : (n : ℕ) (k : Taken) → refused n k ≡ t → Answers n t state label out state label out
   unfolding Answers number state_after label_after feed_places
   is-refused n k e = rw (sym e) (refl, (refl, (refl, refl)))
-
--- The first part of a call
-
-module _ (st : State) (piece state label out : List ℕ) (b : Start) where
-  -- it ends with a status
-  pub begun-ends : {s l o : List ℕ} (n : ℕ) → b.status ≡ n → (n ≡ 1 → ⊥) → Answers n (feed_of st piece) state label out s l o → Begun st piece b state label out s l o
-  begun-ends n e o x = record { ends = λ m. rw e x; searches = λ y. absurd (o (sym e ∙ y)); marked = λ y. absurd (o (sym e ∙ y)); same = λ y. absurd (o (sym e ∙ y)) }
-
-  pub begun-searches : {s : List ℕ} → b.status ≡ 1 → is_marked s ≡ true → Starts st piece (state_of s) b.at b.taken → Begun st piece b state label out s label out
-  begun-searches e y x = record { ends = λ n. absurd (n e); searches = λ m. x; marked = λ m. y; same = λ m. (refl, refl) }
 
 -- Closing
 

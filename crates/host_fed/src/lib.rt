@@ -12,14 +12,14 @@ ghost use Rattle.host_fed_states.proofs.Values.{Tells, Begins};
 ghost use Rattle.host_fed.specs.Places.{state_after, label_after, feed_places, Answers, closed, close_places};
 ghost use Rattle.host_fed.specs.Begun.{Begun};
 
-use fed::{Answer, reach};
-use fed_states::{Ending, close, label_at, open_end, open_limit};
+use fed::reach;
+use fed_states::{close, label_at, open_end, open_limit};
 use host_fed_states::{
     Value, begun, eight_of, limit_of, marked, put_behind, put_done, put_eight, put_having,
     put_places, put_rest, put_state, starting, state_of, waited,
 };
 use host_numbers::mark;
-use parts::{saturating_sub, u64_of};
+use std::ops::ControlFlow;
 use walk::{Cursor, Step};
 
 // A walk of at most so many bytes.
@@ -42,38 +42,30 @@ pub extern "C" fn brine_fed_end(end: usize, state: &mut [u64; 10]) -> u32
     0
 }
 
-// What a piece comes to before a search: the call's status where it ends there, or SEARCHES, the place of the stream where a search
-// starts, and how many bytes were taken before it.
+// Where a search starts: the place of the stream, and how many bytes of the piece were taken before it.
 #[derive(Clone, Copy)]
 pub struct Start {
     pub at: usize,
     pub taken: usize,
-    pub status: u32,
 }
 
-const SEARCHES: u32 = 1;
-
-// Where the call ends.
-fn ended(status: u32) -> Start
-    ensures { result.status ≡ status }
-{
-    Start {
-        at: 0,
-        taken: 0,
-        status,
-    }
-}
-
-// Takes the bytes before a search by way of the state.
-fn resume(state: &mut [u64; 10], piece: &[u8], label: &mut [u8; 16], out: &mut [u64; 8]) -> Start
+// Takes the bytes before a search by way of the state: the call's status where it ends there, or where the search starts.
+fn resume(
+    state: &mut [u64; 10],
+    piece: &[u8],
+    label: &mut [u8; 16],
+    out: &mut [u64; 8],
+) -> ControlFlow<u32, Start>
     ensures { Begun (state_of state.old) piece.now result state.old label.old out.old state.new label.new out.new }
 {
-    let f = reach(state_of(state), piece);
+    let f = match reach(state_of(state), piece) {
+        Ok(f) => f,
+        Err(e) => return ControlFlow::Break(e.number()),
+    };
     let st = f.state;
     let taken = f.taken;
-    let a = f.answer;
-    match a {
-        Answer::Record(k, passed) => {
+    match f.found {
+        Some((k, passed)) => {
             let shortest = mark(k.shortest);
             let key = st.label;
             *label = key;
@@ -88,24 +80,18 @@ fn resume(state: &mut [u64; 10], piece: &[u8], label: &mut [u8; 16], out: &mut [
                 passed as u64,
             ];
             put_state(st, state);
-            ended(0)
+            ControlFlow::Break(0)
         }
-        Answer::Nothing => {
+        None => {
             if taken < piece.len() {
                 let at = st.at + st.have;
                 put_state(st, state);
-                return Start {
-                    at,
-                    taken,
-                    status: SEARCHES,
-                };
+                return ControlFlow::Continue(Start { at, taken });
             }
             *out = [0, taken as u64, 0, 0, 0, 0, 0, 0];
             put_state(st, state);
-            ended(0)
+            ControlFlow::Break(0)
         }
-        Answer::TooMuch => ended(2),
-        Answer::Closed => ended(5),
     }
 }
 
@@ -126,7 +112,7 @@ fn within(v: Value, state: &mut [u64; 10], piece: &[u8], label: &mut [u8; 16], o
     }
     let k = v.klv;
     let shortest = mark(k.shortest);
-    let passed = saturating_sub(k.at, state[5] as usize);
+    let passed = k.at.saturating_sub(state[5] as usize);
     put_eight(label, 0, state[6]);
     *out = [
         1,
@@ -144,17 +130,21 @@ fn within(v: Value, state: &mut [u64; 10], piece: &[u8], label: &mut [u8; 16], o
 
 // The first part of a call. Where the flags are 0 or 1, many pieces come to a search without a state being made of the numbers. Where a
 // search is to start the flags are 0 or 1 in any case.
-fn begin(state: &mut [u64; 10], piece: &[u8], label: &mut [u8; 16], out: &mut [u64; 8]) -> Start
+fn begin(
+    state: &mut [u64; 10],
+    piece: &[u8],
+    label: &mut [u8; 16],
+    out: &mut [u64; 8],
+) -> ControlFlow<u32, Start>
     ensures { Begun (state_of state.old) piece.now result state.old label.old out.old state.new label.new out.new }
 {
     if marked(state) {
         let b = starting(state, piece);
         if b.taken < piece.len() {
-            return Start {
+            return ControlFlow::Continue(Start {
                 at: b.at,
                 taken: b.taken,
-                status: SEARCHES,
-            };
+            });
         }
     }
     resume(state, piece, label, out)
@@ -178,15 +168,15 @@ fn walk(
     let since = state[5] as usize;
     let limit = limit_of(state);
     let tail = &piece[i..];
-    let t = Cursor { at: 0, since: 0 }.arrive(tail, limit - here);
-    match t {
+    let start = Cursor { at: 0, since: 0 };
+    match start.arrive(tail, limit - here).unwrap() {
         Step::Record(k, _, c) => {
             let at = here + k.at;
             let value = here + k.value;
             let next = here + c.at;
             let taken = i + c.at;
             let shortest = mark(k.shortest);
-            let passed = saturating_sub(at, since);
+            let passed = at.saturating_sub(since);
             let key = label_at(tail, k.at);
             put_behind(state, next, tail, k.at);
             *label = key;
@@ -205,7 +195,6 @@ fn walk(
             put_rest(state, here, since, tail, c.at);
             *out = [0, piece.len() as u64, 0, 0, 0, 0, 0, 0];
         }
-        Step::Refused => (),
     }
 }
 
@@ -213,12 +202,13 @@ fn walk(
 fn take(state: &mut [u64; 10], piece: &[u8], label: &mut [u8; 16], out: &mut [u64; 8]) -> u32
     ensures { Answers result (feed_of (state_of state.old) piece.now) state.old label.old out.old state.new label.new out.new }
 {
-    let b = begin(state, piece, label, out);
-    if b.status != SEARCHES {
-        return b.status;
+    match begin(state, piece, label, out) {
+        ControlFlow::Break(status) => status,
+        ControlFlow::Continue(b) => {
+            walk(b.at, piece, b.taken, state, label, out);
+            0
+        }
     }
-    walk(b.at, piece, b.taken, state, label, out);
-    0
 }
 
 // Takes a piece that starts with a key: all of it, or up to its value's end.
@@ -233,14 +223,14 @@ fn from_key(v: Value, state: &mut [u64; 10], piece: &[u8], label: &mut [u8; 16],
     let first = eight_of(piece, 0);
     let last = eight_of(piece, 8);
     if n < v.due {
-        let lead = u64_of(piece[16]);
+        let lead = u64::from(piece[16]);
         let eight = eight_of(piece, 17);
         put_places(state, k.at, n, since, first, last, lead, eight);
         *out = [0, n as u64, 0, 0, 0, 0, 0, 0];
         return;
     }
     let shortest = mark(k.shortest);
-    let passed = saturating_sub(k.at, since);
+    let passed = k.at.saturating_sub(since);
     let key = label_at(piece, 0);
     put_places(state, v.next, 0, v.next, first, last, 0, 0);
     *label = key;
@@ -312,19 +302,14 @@ pub extern "C" fn brine_close(state: &mut [u64; 10], out: &mut [u64; 3]) -> u32
     ensures state_after { state.new ≡ closed state.old (close_of (state_of state.old)) }
     ensures out_after { out.new ≡ close_places out.old (close_of (state_of state.old)) }
 {
-    let c = close(state_of(state));
-    let e = c.ending;
-    match e {
-        Ending::Clean => {
-            *out = [1, 0, 0];
-            put_state(c.state, state);
-            0
-        }
-        Ending::Again(v, rest) => {
-            *out = [2, v as u64, rest as u64];
-            put_state(c.state, state);
-            0
-        }
-        Ending::Refused => 5,
-    }
+    let c = match close(state_of(state)) {
+        Ok(c) => c,
+        Err(e) => return e.number(),
+    };
+    *out = match c.rest {
+        None => [1, 0, 0],
+        Some(r) => [2, r.from as u64, r.end as u64],
+    };
+    put_state(c.state, state);
+    0
 }

@@ -9,7 +9,6 @@ ghost use Rattle.fed_frames.specs.Frames.{opened_frames, feed_frames, close_fram
 ghost use Rattle.host_fed_frames.specs.Places.{camera_of, camera_place, walk_of, walk_places, walk_after, label_after, feed_places, closed, close_places};
 
 use fed_frames::{FrameAnswer, FrameState, close, feed, open_end, open_limit};
-use fed_states::Ending;
 use frame_walks::Camera;
 use host_fed_states::{put_state, state_of};
 use host_numbers::mark;
@@ -126,12 +125,14 @@ pub extern "C" fn brine_feed_frame(
     ensures label_after { label.new ≡ label_after label.old (feed_frames (walk_of state.old) piece.now) }
     ensures out_after { out.new ≡ feed_places out.old (feed_frames (walk_of state.old) piece.now) }
 {
-    let f = feed(walk_of(state), piece);
+    let f = match feed(walk_of(state), piece) {
+        Ok(f) => f,
+        Err(e) => return e.number(),
+    };
     let w = f.walk;
     let st = w.state;
     let key = st.label;
-    let a = f.answer;
-    match a {
+    match f.answer {
         FrameAnswer::Frame(e, passed) => {
             let k = e.element;
             let overlong = mark(e.overlong);
@@ -171,7 +172,6 @@ pub extern "C" fn brine_feed_frame(
             put_walk(w, state);
             0
         }
-        FrameAnswer::Refused(n) => n,
     }
 }
 
@@ -182,20 +182,15 @@ pub extern "C" fn brine_close_frames(state: &mut [u64; 13], out: &mut [u64; 4]) 
     ensures state_after { state.new ≡ closed state.old (close_frames (walk_of state.old)) }
     ensures out_after { out.new ≡ close_places out.old (close_frames (walk_of state.old)) }
 {
-    let c = close(walk_of(state));
+    let c = match close(walk_of(state)) {
+        Ok(c) => c,
+        Err(e) => return e.number(),
+    };
     let w = c.walk;
-    let e = c.ending;
-    match e {
-        Ending::Clean => {
-            *out = [1, 0, 0, w.number];
-            put_walk(w, state);
-            0
-        }
-        Ending::Again(v, rest) => {
-            *out = [2, v as u64, rest as u64, w.number];
-            put_walk(w, state);
-            0
-        }
-        Ending::Refused => 5,
-    }
+    *out = match c.rest {
+        None => [1, 0, 0, w.number],
+        Some(r) => [2, r.from as u64, r.end as u64, w.number],
+    };
+    put_walk(w, state);
+    0
 }

@@ -21,12 +21,15 @@ use Rattle.fed_pieces.specs.Pieces.{refusal_of, behind, feed_on, Fits}
 use Rattle.fed_pieces.proofs.Laws.{feeds, number-refusal, refusal-none, taken-fits}
 use Rattle.fed_pieces.proofs.Told.{Further, further}
 use Rattle.host_records.specs.Batch.{places_each, record_put}
-use Rattle.host_fed_states.specs.Places.{state_of, state_places, seeking_of}
-use Rattle.host_fed_records.specs.declared.Start.{Start}
+use Rattle.host_fed_states.specs.Places.{state_places}
 use Rattle.host_fed_records.specs.Many.{ends, Ran, Ended, Answered}
-use Rattle.host_fed_records.specs.Begun.{Starts, Begun}
+use Rattle.host_fed_records.specs.Begun.{Starts}
 use Rattle.host_fed_records.proofs.Putting.{ran-start, ran_on, ran-next, ran-same, Done, ran-full, ran_rests, ran_over}
 use Rattle.host_fed_records.proofs.Answers.{is-refused, is-taken}
+
+-- a search starts at the state that is put
+pub begun-starts : (st : State) (piece : List ℕ) (most : ℕ) (rs ls rs' ls' : List ℕ) (p q : State) (i n : ℕ) → q ≡ p → Starts st piece most q i n rs ls rs' ls' → Starts st piece most p i n rs ls rs' ls'
+begun-starts st piece most rs ls rs' ls' p q i n z x = rw z at x
 
 module _ (st : State) (piece : List ℕ) where
   -- feeding what is left of a piece of which nothing has been taken is feeding it
@@ -41,16 +44,9 @@ module _ (st : State) (piece : List ℕ) where
 
   module _ (most : ℕ) (state rs ls out : List ℕ) where
     -- A piece that is refused
-    pub begun-refused : (b : Start) (n : ℕ) (k : Taken) → refused n k ≡ feed_of st piece → (n ≡ 0 → ⊥) → (n ≡ 1 → ⊥) → b.status ≡ n → Begun st piece most b state rs ls out state rs ls out
+    pub begun-refused : (n : ℕ) (k : Taken) → refused n k ≡ feed_of st piece → (n ≡ 0 → ⊥) → Answered st piece most state rs ls out n state rs ls out
     unfolding number
-    begun-refused b n k e z o x =
-        let y : n ≡ refusal_of st (length piece) = ap (λ (t : ToldAt Taken (Passed Item)). number t) e ∙ number-refusal st piece in
-        record { ends = λ w. rw x (is-refused st piece most state rs ls out n y z); starts = λ w. absurd (o (sym x ∙ w)) }
-
-    -- a search starts at the state that is put
-    pub begun-starts : {s rs' ls' o : List ℕ} (b : Start) (q : State) → b.status ≡ 1 → q ≡ seeking_of (state_of s) b.at b.since → Starts st piece most q b.taken b.count rs ls rs' ls'
-        → Begun st piece most b state rs ls out s rs' ls' o
-    begun-starts b q e z x = record { ends = λ n. absurd (n e); starts = λ m. rw z at x }
+    begun-refused n k e z = is-refused st piece most state rs ls out n (ap (λ (t : ToldAt Taken (Passed Item)). number t) e ∙ number-refusal st piece) z
 
     -- one that is taken, whose records were put
     module _ (taken : number (feed_of st piece) ≡ 0) where
@@ -63,21 +59,17 @@ module _ (st : State) (piece : List ℕ) where
       pub done-answers : {rs' ls' : List ℕ} (e : Taken) (m : ℕ) → Done piece most (took st 0) rs ls e m rs' ls' → Answered st piece most state rs ls out 0 (state_places e.state) rs' ls' (ends m e.taken)
       done-answers e m d = is-taken st piece most state rs ls out 0 not-refused refl e m d.end d.count d.records d.labels
 
-      begun-done : {rs' ls' : List ℕ} (b : Start) (e : Taken) (m : ℕ) → Done piece most (took st 0) rs ls e m rs' ls' → b.status ≡ 0
-          → Begun st piece most b state rs ls out (state_places e.state) rs' ls' (ends m e.taken)
-      begun-done b e m d x = record { ends = λ y. rw x (done-answers e m d); starts = λ y. absurd (omega arith) }
-
       -- the last part of the call
       pub ended_answers : {q : Taken} {n : ℕ} {rs₁ ls₁ rs' ls' s o : List ℕ} → Ran piece most (took st 0) 0 rs ls q n rs₁ ls₁ → Ended piece most q n rs₁ ls₁ rs' ls' s o
           → Answered st piece most state rs ls out 0 s rs' ls' o
       ended_answers r e = rw (e.state-put, e.out_put) (done-answers e.end e.count (ran_over piece most (ran_on piece most r e.ran) e.end e.over))
 
     -- nothing comes of it
-    pub begun-nothing : (b : Start) (t : State) (n : ℕ) → 0 < most → nothing (took t n) ≡ feed_of st piece → b.status ≡ 0 → Begun st piece most b state rs ls out (state_places t) rs ls (ends 0 n)
+    pub begun-nothing : (t : State) (n : ℕ) → 0 < most → nothing (took t n) ≡ feed_of st piece → Answered st piece most state rs ls out 0 (state_places t) rs ls (ends 0 n)
     unfolding number
-    begun-nothing b t n h e x =
+    begun-nothing t n h e =
         let z : number (feed_of st piece) ≡ 0 = sym (ap (λ (y : ToldAt Taken (Passed Item)). number y) e) in
-        begun-done z b (took t n) 0 (ran_rests piece most (ran-start piece most (took st 0) 0 rs ls (omega arith)) h (took t n) (rw (whole ∙ sym e) refl)) x
+        done-answers z (took t n) 0 (ran_rests piece most (ran-start piece most (took st 0) 0 rs ls (omega arith)) h (took t n) (rw (whole ∙ sym e) refl))
 
     -- A search starts
     pub starts_search : (s : State) (i : ℕ) → 0 < most → Searching st piece s i → Starts st piece most (sought s (s.at + s.have) 0) i 0 rs ls rs ls
@@ -120,13 +112,13 @@ module _ (st : State) (piece : List ℕ) where
       put = ran-next piece most (took st 0) 0 rs ls h a (took t n) told
 
       -- the room is full, or nothing is left
-      pub begun-over : (b : Start) → (1 < most → n < length piece → ⊥) → b.status ≡ 0 → Begun st piece most b state rs ls out (state_places t) rs₁ ls₁ (ends 1 n)
-      begun-over b stop x =
-          begun-done none-refused b (took t n) 1
+      pub begun-over : (1 < most → n < length piece → ⊥) → Answered st piece most state rs ls out 0 (state_places t) rs₁ ls₁ (ends 1 n)
+      begun-over stop =
+          done-answers none-refused (took t n) 1
           (by_cases (dec_lt 1 most)
           (λ m. ran_rests piece most put m (took t n)
           (rw (feeds piece t.limit (took t n) fits_on ∙ takes_none t piece n n (by_cases (dec_lt n (length piece)) (λ k. absurd (stop m k)) (λ k. omega arith))) refl))
-          (λ m. ran-full piece most put (omega arith))) x
+          (λ m. ran-full piece most put (omega arith)))
 
       -- or a search starts behind it
       pub starts-behind : n < length piece → 1 < most → Starts st piece most (sought t t.at 0) n 1 rs ls rs₁ ls₁

@@ -1,4 +1,5 @@
 -- At a place of the rest of a piece where a search starts, a step of the walk is what feeding the rest says. Assumes nothing.
+use Rattle.std.specs.Prelude.{Result, Ok, IsOk}
 use Prim.Native.Nat.{ℕ, ◌+◌, ◌-◌, ◌≤◌, ◌<◌}
 use mathlib.Core.Path.{◌≡◌, refl, sym, ap, ◌∙◌}
 use mathlib.Core.List.{List}
@@ -14,11 +15,13 @@ use Rattle.klv.specs.declared.Klv.{Klv}
 use Rattle.klv.specs.Item.{past, Item, item}
 use Rattle.walk.specs.declared.Walked.{Walked}
 use Rattle.walk.specs.declared.Cursor as at
+use Rattle.walk.specs.declared.Step.{Step}
 use Rattle.walk.specs.declared.Step.TheVariants as step
+use Rattle.walk.specs.declared.WalkError.{WalkError}
 use Rattle.walk.specs.Walk.{walked, arriving_after, arriving_by, stepped, arriving_step}
 use Rattle.walk.specs.Passed.{arriving_passing}
 use Rattle.walk.specs.Told.{told}
-use Rattle.walk.proofs.Answers.{arriving-within, not-past_limit, passing-found, passing-nothing, passing_never}
+use Rattle.walk.proofs.Answers.{arriving-within, arrive-ok, passing-found, passing-nothing}
 use Rattle.fed_states.specs.declared.State.{State}
 use Rattle.fed_states.specs.State.{no_ber, sought}
 use Rattle.fed_bytes.specs.Feed.{Taken, took, eats}
@@ -90,7 +93,7 @@ module _ (st : State) (piece : List ℕ) (i : ℕ) (f : Fits piece st.limit (too
         pub is : feed_on piece (at_place st i p since label)
             ≡ found (record { it = record { klv = onward st.at k; key = label_at tail k.at }; passed = st.at + k.at - since }) (at_place st i q (st.at + q) (label_at tail k.at))
 
-      pub got : (k : Klv) (n : ℕ) (c : at.Cursor) → told 2 tail (cursor p p) (step.Record k n c) ≡ arriving_passing (st.limit - st.at) tail (cursor p p) → Got k c.at
+      pub got : (k : Klv) (n : ℕ) (c : at.Cursor) → told tail (cursor p p) (Ok (step.Record k n c)) ≡ arriving_passing (st.limit - st.at) tail (cursor p p) → Got k c.at
       unfolding arriving_after
       got k n c e =
           go (walked (st.limit - st.at) tail (length tail) p) (leads s st.at tail i within p (omega arith))
@@ -115,7 +118,7 @@ module _ (st : State) (piece : List ℕ) (i : ℕ) (f : Fits piece st.limit (too
         pub most : q ≤ length tail
         pub is : feed_on piece (at_place st i p since label) ≡ nothing (took (kept_from s st.at tail q) (length piece))
 
-      pub waits : (c : at.Cursor) → told 2 tail (cursor p p) (step.Rests c) ≡ arriving_passing (st.limit - st.at) tail (cursor p p) → Waits c.at
+      pub waits : (c : at.Cursor) → told tail (cursor p p) (Ok (step.Rests c)) ≡ arriving_passing (st.limit - st.at) tail (cursor p p) → Waits c.at
       unfolding arriving_after
       waits c e =
           go (walked (st.limit - st.at) tail (length tail) p) (leads s st.at tail i within p (omega arith))
@@ -129,5 +132,6 @@ module _ (st : State) (piece : List ℕ) (i : ℕ) (f : Fits piece st.limit (too
           go w (stops_at q a t u) e = at_rest q (cc) a (t ∙ u)
           go w (loses_at q a t u) e = at_rest (wait_from tail q) (cc) a (t ∙ u)
 
-      pub never : told 2 tail (cursor p p) step.Refused ≡ arriving_passing (st.limit - st.at) tail (cursor p p) → ⊥
-      never e = passing_never (cursor p p) (arriving_step (st.limit - st.at) tail p) (not-past_limit (st.limit - st.at) tail p (omega (arith, within))) 2 (cursor p p) e
+      -- the step has an answer
+      pub has-step : (r : Result Step WalkError) → told tail (cursor p p) r ≡ arriving_passing (st.limit - st.at) tail (cursor p p) → IsOk r
+      has-step r e = arrive-ok (st.limit - st.at) tail (cursor p p) r (omega (arith, within)) e

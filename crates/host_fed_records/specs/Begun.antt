@@ -1,4 +1,6 @@
 -- The first part of a call: it ends it, or a search is to start.
+use Rattle.std.specs.declared.ops.ControlFlow.{ControlFlow}
+use Rattle.std.specs.declared.ops.ControlFlow.TheVariants.{Break, Continue}
 use Rattle.std.specs.Prelude.{ℕ, ◌<◌, ◌≡◌, List, length}
 use Rattle.steps.specs.Told.{number}
 use Rattle.fed_states.specs.declared.State.{State}
@@ -16,6 +18,6 @@ pub record Starts (st : State) (piece : List ℕ) (most : ℕ) (q : State) (i n 
   pub room : n < most
   pub ran : Ran piece most (took st 0) 0 records labels (took q i) n rs ls
 
-pub record Begun (st : State) (piece : List ℕ) (most : ℕ) (b : Start) (state records labels out s rs ls o : List ℕ) : Type 0 where
-  pub ends : (b.status ≡ 1 → ⊥) → Answered st piece most state records labels out b.status s rs ls o
-  pub starts : b.status ≡ 1 → Starts st piece most (seeking_of (state_of s) b.at b.since) b.taken b.count records labels rs ls
+abbrev pub Begun : State → List ℕ → ℕ → ControlFlow ℕ Start → List ℕ → List ℕ → List ℕ → List ℕ → List ℕ → List ℕ → List ℕ → List ℕ → Type 0
+Begun st piece most (Break n) state records labels out s rs ls o = Answered st piece most state records labels out n s rs ls o
+Begun st piece most (Continue b) state records labels out s rs ls o = Starts st piece most (seeking_of (state_of s) b.at b.since) b.taken b.count records labels rs ls

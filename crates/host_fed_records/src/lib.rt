@@ -14,15 +14,15 @@ ghost use Rattle.host_fed_states.proofs.Values.{Tells};
 ghost use Rattle.host_fed_records.specs.Many.{room, labels_put, many_state, many_places, Ended, Roomless};
 ghost use Rattle.host_fed_records.specs.Begun.{Begun};
 
-use fed::{Answer, reach};
-use fed_pieces::refusal;
+use fed::reach;
+use fed_pieces::admit;
 use host_fed_states::{
     Value, limit_of, put_behind, put_done, put_eight, put_flags, put_having, put_rest, put_state,
     starting, state_of, waited,
 };
 use host_numbers::mark;
 use klv::Klv;
-use parts::{lesser, saturating_sub};
+use std::ops::ControlFlow;
 use walk::{Cursor, Step};
 
 // How many places a record takes, and how many bytes its label.
@@ -30,18 +30,14 @@ const PLACES_EACH: usize = 6;
 
 const LABEL: usize = 16;
 
-// What a piece comes to before a search: the call's status where it ends there, or SEARCHES, the place of the stream where a search
-// starts, where walking last went on, and how many bytes were taken and records put.
+// Where a search starts: the place of the stream, where walking last went on, and how many bytes were taken and records put.
 #[derive(Clone, Copy)]
 pub struct Start {
     pub at: usize,
     pub since: usize,
     pub taken: usize,
     pub count: usize,
-    pub status: u32,
 }
-
-const SEARCHES: u32 = 1;
 
 // Puts a record's places.
 fn put_record(records: &mut [u64], at: usize, k: Klv, passed: usize)
@@ -63,24 +59,16 @@ fn label_at(s: &[u8], at: usize) -> [u8; 16]
     ensures { result ≡ label_at s.now at }
 {
     let mut label = [0u8; 16];
-    let mut n = 0;
-    while n < 16 {
-        label[n] = s[at + n];
-        n += 1;
-    }
+    label.copy_from_slice(&s[at..at + 16]);
     label
 }
 
-// Puts a label. It goes by way of an array of its own, so that the compiler copies all of it at once.
+// Puts a label.
 fn put_label(labels: &mut [u8], at: usize, label: [u8; 16])
     requires { at + 16 ≤ length labels.old }
     ensures { labels.new ≡ sets labels.old at label }
 {
-    let mut n = 0;
-    while n < 16 {
-        labels[at + n] = label[n];
-        n += 1;
-    }
+    labels[at..at + 16].copy_from_slice(&label);
 }
 
 // Puts a record behind n others, and its label.
@@ -103,22 +91,7 @@ fn moved(k: Klv, by: usize) -> Klv
     Klv {
         at: by + k.at,
         value: by + k.value,
-        len: k.len,
-        size: k.size,
-        shortest: k.shortest,
-    }
-}
-
-// Where the call ends.
-fn ended(status: u32) -> Start
-    ensures { result.status ≡ status }
-{
-    Start {
-        at: 0,
-        since: 0,
-        taken: 0,
-        count: 0,
-        status,
+        ..k
     }
 }
 
@@ -130,50 +103,48 @@ fn resume(
     labels: &mut [u8],
     most: usize,
     out: &mut [u64; 2],
-) -> Start
+) -> ControlFlow<u32, Start>
     requires most_nonzero { 0 < most }
     requires most_in_bounds { places_each * most ≤ length records.old }
     requires most_in_bounds_2 { 16 * most ≤ length labels.old }
     ensures { Begun (state_of state.old) piece.now most result state.old records.old labels.old out.old state.new records.new labels.new out.new }
 {
-    let f = reach(state_of(state), piece);
+    let f = match reach(state_of(state), piece) {
+        Ok(f) => f,
+        Err(e) => return ControlFlow::Break(e.number()),
+    };
     let st = f.state;
     let taken = f.taken;
-    let a = f.answer;
-    match a {
-        Answer::Record(k, passed) => {
+    match f.found {
+        Some((k, passed)) => {
             let label = st.label;
             put(records, labels, 0, k, passed, label);
             put_state(st, state);
             if (1 < most) & (taken < piece.len()) {
-                return Start {
+                return ControlFlow::Continue(Start {
                     at: st.at,
                     since: st.since,
                     taken,
                     count: 1,
-                    status: SEARCHES,
-                };
+                });
             }
             *out = [1, taken as u64];
-            ended(0)
+            ControlFlow::Break(0)
         }
-        Answer::Nothing => {
+        None => {
             put_state(st, state);
             if taken < piece.len() {
                 let at = st.at + st.have;
-                return Start {
+                return ControlFlow::Continue(Start {
                     at,
                     since: st.since,
                     taken,
                     count: 0,
-                    status: SEARCHES,
-                };
+                });
             }
             *out = [0, taken as u64];
-            ended(0)
+            ControlFlow::Break(0)
         }
-        Answer::TooMuch => ended(2),
-        Answer::Closed => ended(5),
     }
 }
 
@@ -187,7 +158,7 @@ fn within(
     labels: &mut [u8],
     most: usize,
     out: &mut [u64; 2],
-) -> Start
+) -> ControlFlow<u32, Start>
     requires tells { Tells (state_of state.old) (length piece.now) v }
     requires most_nonzero { 0 < most }
     requires most_in_bounds { places_each * most ≤ length records.old }
@@ -201,27 +172,26 @@ fn within(
         *out = [0, n as u64];
         put_having(state, have + n);
         put_flags(state);
-        return ended(0);
+        return ControlFlow::Break(0);
     }
     let k = v.klv;
-    let passed = saturating_sub(k.at, state[5] as usize);
+    let passed = k.at.saturating_sub(state[5] as usize);
     let label = &mut labels[..LABEL];
     put_eight(label, 0, state[6]);
     put_record(records, 0, k, passed);
     put_eight(label, 8, state[7]);
     if (1 < most) & (taken < n) {
-        return Start {
+        return ControlFlow::Continue(Start {
             at: v.next,
             since: v.next,
             taken,
             count: 1,
-            status: SEARCHES,
-        };
+        });
     }
     *out = [1, taken as u64];
     put_done(state, v.next);
     put_flags(state);
-    ended(0)
+    ControlFlow::Break(0)
 }
 
 // The first part of a call. Most end, or come to a search, without a state being made of the numbers.
@@ -232,7 +202,7 @@ fn begin(
     labels: &mut [u8],
     most: usize,
     out: &mut [u64; 2],
-) -> Start
+) -> ControlFlow<u32, Start>
     requires most_nonzero { 0 < most }
     requires most_in_bounds { places_each * most ≤ length records.old }
     requires most_in_bounds_2 { 16 * most ≤ length labels.old }
@@ -245,13 +215,12 @@ fn begin(
     let b = starting(state, piece);
     if b.taken < piece.len() {
         let since = state[5] as usize;
-        return Start {
+        return ControlFlow::Continue(Start {
             at: b.at,
             since,
             taken: b.taken,
             count: 0,
-            status: SEARCHES,
-        };
+        });
     }
     resume(state, piece, records, labels, most, out)
 }
@@ -275,7 +244,7 @@ fn put_next(
     ensures labels_after { labels.new ≡ sets labels.old (16 * n) (label_at tail.now k.at) }
 {
     let r = moved(k, here);
-    let passed = saturating_sub(r.at, since);
+    let passed = r.at.saturating_sub(since);
     put(records, labels, n, r, passed, label_at(tail, k.at));
 }
 
@@ -306,15 +275,14 @@ fn walk(
     let mut since = from;
     let mut m = n;
     loop {
-        let t = Cursor { at: p, since: p }.arrive(tail, limit - here);
-        match t {
+        let cursor = Cursor { at: p, since: p };
+        match cursor.arrive(tail, limit - here).unwrap() {
             Step::Rests(c) => {
                 *out = [m as u64, piece.len() as u64];
                 put_rest(state, here, since, tail, c.at);
                 put_flags(state);
                 return;
             }
-            Step::Refused => return,
             Step::Record(r, _, c) => {
                 put_next(records, labels, m, tail, r, here, since);
                 since = here + c.at;
@@ -337,9 +305,8 @@ fn roomless(state: &mut [u64; 10], piece: &[u8], out: &mut [u64; 2]) -> u32
     ensures { Roomless (state_of state.old) piece.now state.old out.old result state.new out.new }
 {
     let st = state_of(state);
-    let no = refusal(st, piece.len());
-    if no != 0 {
-        return no;
+    if let Err(e) = admit(st, piece.len()) {
+        return e.number();
     }
     *out = [0, 0];
     put_state(st, state);
@@ -361,16 +328,17 @@ pub extern "C" fn brine_feed_records(
     ensures labels_after { labels.new ≡ labels_put (records_of (room records.old labels.old) (state_of state.old) piece.now) 0 labels.old }
     ensures out_after { out.new ≡ many_places out.old (records_of (room records.old labels.old) (state_of state.old) piece.now) (end_of (room records.old labels.old) (state_of state.old) piece.now) (number (feed_of (state_of state.old) piece.now)) }
 {
-    let most = lesser(records.len() / PLACES_EACH, labels.len() / LABEL);
+    let most = (records.len() / PLACES_EACH).min(labels.len() / LABEL);
     if most == 0 {
         return roomless(state, piece, out);
     }
-    let b = begin(state, piece, records, labels, most, out);
-    if b.status != SEARCHES {
-        return b.status;
+    match begin(state, piece, records, labels, most, out) {
+        ControlFlow::Break(status) => status,
+        ControlFlow::Continue(b) => {
+            walk(
+                b.at, b.since, piece, b.taken, records, labels, b.count, most, state, out,
+            );
+            0
+        }
     }
-    walk(
-        b.at, b.since, piece, b.taken, records, labels, b.count, most, state, out,
-    );
-    0
 }

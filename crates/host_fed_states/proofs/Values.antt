@@ -4,7 +4,7 @@ use Prim.Native.Nat.{ℕ, ◌+◌, ◌-◌, ◌≤◌, ◌<◌}
 use mathlib.Core.Path.{◌≡◌, refl, sym, ap, ◌∙◌}
 use mathlib.Core.Bool.{Bool, true, false, ◌&&◌, and-false}
 use mathlib.Core.List.{List}
-use mathlib.Core.Logic.{◌⊎◌, inl, inr, ⊎_elim, by_cases}
+use mathlib.Core.Logic.{by_cases}
 use native.Mathlib.Decide.{dec_lt}
 use native.Mathlib.Omega.{arith}
 use borrow.Author.Tests.{le-leb, lt-leb, le-ltb, lt-ltb, leb-true, ne_eqb}
@@ -50,9 +50,10 @@ whole_length st h e = ap (λ (x : List ℕ). length_at x 0) (take_all (st.have -
 
 -- A value, by the length in front of it
 module _ (limit at have : ℕ) where
-  pub value_none : (l : Result Field NoLength) → (l ≡ Err Cut) ⊎ (l ≡ Err Invalid) → nowhere ≡ value_of limit at have l
+  pub value_none : (e : NoLength) → nowhere ≡ value_of limit at have (Err e)
   unfolding value_of
-  value_none l o = ⊎_elim (λ x. rw x) (λ x. rw x) o
+  value_none Cut = refl
+  value_none Invalid = refl
 
   module _ (f : Field) where
     pub value_late : limit < at + 16 + f.size + f.value → nowhere ≡ value_of limit at have (Ok f)
@@ -85,8 +86,8 @@ value_due limit at have l v e o = go l refl
     none x = absurd (o (ap (λ (y : Value). y.due) (e ∙ sym x)))
 
     go : (m : Result Field NoLength) → l ≡ m → Due limit at have l v
-    go (Err Cut) x = none (value_none limit at have l (inl x))
-    go (Err Invalid) x = none (value_none limit at have l (inr x))
+    go (Err Cut) x = none (rw x (value_none limit at have Cut))
+    go (Err Invalid) x = none (rw x (value_none limit at have Invalid))
     go (Ok f) x =
         by_cases (dec_lt limit (at + 16 + f.size + f.value)) (λ h. none (rw x (value_late limit at have f h)))
         (λ h. by_cases (dec_lt have (16 + f.size + f.value))

@@ -17,8 +17,6 @@ use fed_states::State;
 use host_numbers::mark;
 use keys::{length_of, whole_key};
 use klv::Klv;
-use lengths::Length;
-use parts::u64_of;
 
 // Whether a place is not 0.
 fn flag(n: u64) -> bool
@@ -40,10 +38,8 @@ fn eight_at(b: &[u8], at: usize) -> u64
     ensures { result ≡ number_at b.now at 8 }
 {
     let mut n = 0;
-    let mut i = 0;
-    while i < 8 {
-        n = n * 256 + u64_of(b[at + i]);
-        i += 1;
+    for i in 0..8 {
+        n = n * 256 + u64::from(b[at + i]);
     }
     n
 }
@@ -72,9 +68,7 @@ pub fn put_eight(b: &mut [u8], at: usize, n: u64)
         return;
     }
     let mut rest = n;
-    let mut i = 8;
-    while 0 < i {
-        i -= 1;
+    for i in (0..8).rev() {
         b[at + i] = (rest % 256) as u8;
         rest /= 256;
     }
@@ -133,7 +127,7 @@ pub fn put_state(st: State, s: &mut [u64; 10])
         st.since as u64,
         eight_at(&label, 0),
         eight_at(&label, 8),
-        u64_of(ber[0]),
+        u64::from(ber[0]),
         eight_at(&ber, 1),
     ];
 }
@@ -217,7 +211,7 @@ fn value_of(limit: usize, at: usize, have: usize, lead: u64, eight: u64) -> Valu
     ensures { result ≡ value_of limit at have (length_at (bytes_of 1 lead ++ bytes_of 8 eight) 0) }
 {
     let l = length_of(lead, eight);
-    let Length::Is(f) = l else {
+    let Ok(f) = l else {
         return nowhere();
     };
     let behind = 16 + f.size;
@@ -278,7 +272,7 @@ pub fn begun(s: &[u64; 10], piece: &[u8]) -> Value
     if !whole_key(piece, 0, piece.len()) {
         return nowhere();
     }
-    let lead = u64_of(piece[16]);
+    let lead = u64::from(piece[16]);
     let eight = eight_at(piece, 17);
     value_of(limit, at, have, lead, eight)
 }
@@ -308,7 +302,7 @@ fn put_in(st: State, s: &mut [u64; 10])
     let ber = st.ber;
     let first = eight_at(&label, 0);
     let last = eight_at(&label, 8);
-    let lead = u64_of(ber[0]);
+    let lead = u64::from(ber[0]);
     let eight = eight_at(&ber, 1);
     put_places(s, st.at, st.have, st.since, first, last, lead, eight);
 }
@@ -416,7 +410,7 @@ fn put_key(s: &mut [u64; 10], at: usize, since: usize, b: &[u8], w: usize)
 {
     let first = eight_at(b, w);
     let last = eight_at(b, w + 8);
-    let lead = u64_of(b[w + 16]);
+    let lead = u64::from(b[w + 16]);
     let eight = eight_at(b, w + 17);
     let have = b.len() - w;
     put_places(s, at + w, have, since, first, last, lead, eight);

@@ -9,13 +9,18 @@ ghost use Rattle.host_frames.specs.Places.{status_of, places_of};
 
 use frame_walks::{Arri, Canon, FrameStep, Place, Sony};
 use host_numbers::mark;
+use walk::WalkError;
 
-// Puts what a step found, whatever cursor it was given, and answers its status, which for a refusal is the walk's own.
-fn put(t: FrameStep, refusal: u32, out: &mut [u64; 10]) -> u32
-    ensures value { (k : Cursor Carried) → result ≡ status_of (told refusal k t) }
-    ensures out_after { (k : Cursor Carried) → out.new ≡ places_of (told refusal k t) out.old }
+// Puts what a step found, whatever cursor it was given, and answers its status.
+fn put(t: Result<FrameStep, WalkError>, out: &mut [u64; 10]) -> u32
+    ensures value { (k : Cursor Carried) → result ≡ status_of (told k t) }
+    ensures out_after { (k : Cursor Carried) → out.new ≡ places_of (told k t) out.old }
 {
-    match t {
+    let step = match t {
+        Ok(step) => step,
+        Err(e) => return e.number(),
+    };
+    match step {
         FrameStep::Frame(f, passed, next) => {
             let k = f.element;
             let overlong = mark(f.overlong);
@@ -63,7 +68,6 @@ fn put(t: FrameStep, refusal: u32, out: &mut [u64; 10]) -> u32
             ];
             0
         }
-        FrameStep::Refused => refusal,
     }
 }
 
@@ -81,8 +85,7 @@ pub extern "C" fn brine_sony_step(
     ensures out_after { out.new ≡ places_of (sony_step s.now end (cursor at (carried since number))) out.old }
 {
     let place = Place { at, since, number };
-    let t = Sony { place }.step(s, end);
-    put(t, 1, out)
+    put(Sony { place }.step(s, end), out)
 }
 
 // A step of Sony's arriving frame walk.
@@ -99,8 +102,7 @@ pub extern "C" fn brine_sony_arrive(
     ensures out_after { out.new ≡ places_of (sony_arrive limit a.now (cursor at (carried since number))) out.old }
 {
     let place = Place { at, since, number };
-    let t = Sony { place }.arrive(a, limit);
-    put(t, 2, out)
+    put(Sony { place }.arrive(a, limit), out)
 }
 
 // A step of ARRI's.
@@ -117,8 +119,7 @@ pub extern "C" fn brine_arri_step(
     ensures out_after { out.new ≡ places_of (arri_step s.now end (cursor at (carried since number))) out.old }
 {
     let place = Place { at, since, number };
-    let t = Arri { place }.step(s, end);
-    put(t, 1, out)
+    put(Arri { place }.step(s, end), out)
 }
 
 // A step of ARRI's arriving frame walk.
@@ -135,8 +136,7 @@ pub extern "C" fn brine_arri_arrive(
     ensures out_after { out.new ≡ places_of (arri_arrive limit a.now (cursor at (carried since number))) out.old }
 {
     let place = Place { at, since, number };
-    let t = Arri { place }.arrive(a, limit);
-    put(t, 2, out)
+    put(Arri { place }.arrive(a, limit), out)
 }
 
 // A step of Canon's, which gives values beside the frames.
@@ -153,6 +153,5 @@ pub extern "C" fn brine_canon_step(
     ensures out_after { out.new ≡ places_of (canon_step s.now end (cursor at (carried since number))) out.old }
 {
     let place = Place { at, since, number };
-    let t = Canon { place }.step(s, end);
-    put(t, 1, out)
+    put(Canon { place }.step(s, end), out)
 }

@@ -25,12 +25,7 @@ const PLACES_EACH: usize = 6;
 
 // Puts a record's places.
 fn put_record(records: &mut [u64], at: usize, k: Klv, passed: usize)
-    requires at_in_bounds { at < length records.old }
-    requires at_in_bounds_2 { at + 1 < length records.old }
-    requires at_in_bounds_3 { at + 2 < length records.old }
-    requires at_in_bounds_4 { at + 3 < length records.old }
-    requires at_in_bounds_5 { at + 4 < length records.old }
-    requires at_in_bounds_6 { at + 5 < length records.old }
+    requires { at + 5 < length records.old }
     ensures { records.new ≡ record_put k passed at records.old }
 {
     let shortest = mark(k.shortest);
@@ -58,23 +53,35 @@ fn put_records(s: &[u8], way: Way, from: Cursor, records: &mut [u64]) -> Batch
     ensures value { result ≡ batch_of (step_on way s.now) (length records.old / places_each) (cursor_of from) }
     ensures records_after { records.new ≡ records_put (batch (step_on way s.now) records.old (cursor_of from)) 0 records.old }
 {
-    let mut left = records.len() / PLACES_EACH;
-    let mut count = 0;
     let mut k = from;
-    while 0 < left {
-        let t = k.on(s, way);
-        match t {
+    let room = records.len() / PLACES_EACH;
+    for count in 0..room {
+        let Ok(step) = k.on(s, way) else {
+            return so_far(count, k);
+        };
+        match step {
             Step::Rests(c) => return so_far(count, c),
-            Step::Refused => return so_far(count, k),
             Step::Record(r, passed, c) => {
                 put_record(records, PLACES_EACH * count, r, passed);
-                left -= 1;
-                count += 1;
                 k = c;
             }
         }
     }
-    so_far(count, k)
+    so_far(room, k)
+}
+
+// The same, and what the batch comes to; the walk's refusal where it has one.
+fn put_batch(s: &[u8], way: Way, from: Cursor, records: &mut [u64], out: &mut [u64; 3]) -> u32
+    ensures value { result ≡ number (step_on way s.now (cursor_of from)) }
+    ensures records_after { records.new ≡ batch_into (step_on way s.now) (cursor_of from) records.old (step_on way s.now (cursor_of from)) }
+    ensures out_after { out.new ≡ batch_places (step_on way s.now) (length records.old / places_each) (cursor_of from) out.old (step_on way s.now (cursor_of from)) }
+{
+    if let Err(e) = way.bounds(s) {
+        return e.number();
+    }
+    let b = put_records(s, way, from, records);
+    *out = [b.count as u64, b.next as u64, b.since as u64];
+    0
 }
 
 // Steps of the finished walk until the room is full or the walk is over.
@@ -91,12 +98,7 @@ pub extern "C" fn brine_records(
     ensures records_after { records.new ≡ batch_into (finished_passing s.now end) (cursor at since) records.old (finished_passing s.now end (cursor at since)) }
     ensures out_after { out.new ≡ batch_places (finished_passing s.now end) (length records.old / places_each) (cursor at since) out.old (finished_passing s.now end (cursor at since)) }
 {
-    if s.len() < end {
-        return 1;
-    }
-    let b = put_records(s, Way::Finished(end), Cursor { at, since }, records);
-    *out = [b.count as u64, b.next as u64, b.since as u64];
-    0
+    put_batch(s, Way::Finished(end), Cursor { at, since }, records, out)
 }
 
 // Steps of the arriving walk until the room is full or the walk waits.
@@ -113,10 +115,5 @@ pub extern "C" fn brine_arrivals(
     ensures records_after { records.new ≡ batch_into (arriving_passing limit a.now) (cursor at since) records.old (arriving_passing limit a.now (cursor at since)) }
     ensures out_after { out.new ≡ batch_places (arriving_passing limit a.now) (length records.old / places_each) (cursor at since) out.old (arriving_passing limit a.now (cursor at since)) }
 {
-    if limit < a.len() {
-        return 2;
-    }
-    let b = put_records(a, Way::Arriving(limit), Cursor { at, since }, records);
-    *out = [b.count as u64, b.next as u64, b.since as u64];
-    0
+    put_batch(a, Way::Arriving(limit), Cursor { at, since }, records, out)
 }

@@ -14,10 +14,10 @@ ghost use Rattle.walk.specs.Told.{told};
 ghost use Rattle.host_walk.specs.Places.{klv_places, item_places, step_places, length_places};
 
 use host_numbers::mark;
-use items::{Coding, Local, LocalNext, Run, RunNext};
+use items::{Coding, Local, Run};
 use klv::Klv;
-use lengths::Length;
-use walk::{Cursor, Step};
+use lengths::NoLength;
+use walk::{Cursor, Step, WalkError};
 
 // Puts what a step found: a KLV, and the next cursor.
 fn put(k: Klv, next: usize, out: &mut [u64; 7])
@@ -41,15 +41,11 @@ pub extern "C" fn brine_length(s: &[u8], at: usize, out: &mut [u64; 4]) -> u32
     ensures value { result ≡ 0 }
     ensures out_after { out.new ≡ length_places (length_at s.now at) }
 {
-    let l = lengths::read(s, at);
-    match l {
-        Length::Is(f) => {
-            let shortest = mark(f.shortest);
-            *out = [1, f.value, f.size as u64, shortest];
-        }
-        Length::Cut => *out = [2, 0, 0, 0],
-        Length::None => *out = [0, 0, 0, 0],
-    }
+    *out = match lengths::read(s, at) {
+        Ok(f) => [1, f.value, f.size as u64, mark(f.shortest)],
+        Err(NoLength::Cut) => [2, 0, 0, 0],
+        Err(NoLength::Invalid) => [0, 0, 0, 0],
+    };
     0
 }
 
@@ -69,12 +65,16 @@ pub extern "C" fn brine_next_key(s: &[u8], end: usize, from: usize) -> usize
     search::next_key(s, end, from)
 }
 
-// Puts what a walk's step found, whatever cursor it was given, and answers its status, `refusal` being that of its own.
-fn put_step(t: Step, refusal: u32, out: &mut [u64; 9]) -> u32
-    ensures by_index { (s : List ℕ) (k : at.Cursor ℕ) → result ≡ number (told refusal s k t) }
-    ensures by_index_2 { (s : List ℕ) (k : at.Cursor ℕ) → out.new ≡ step_places (told refusal s k t) out.old }
+// Puts what a walk's step found, whatever cursor it was given, and answers its status.
+fn put_step(t: Result<Step, WalkError>, out: &mut [u64; 9]) -> u32
+    ensures by_index { (s : List ℕ) (k : at.Cursor ℕ) → result ≡ number (told s k t) }
+    ensures by_index_2 { (s : List ℕ) (k : at.Cursor ℕ) → out.new ≡ step_places (told s k t) out.old }
 {
-    match t {
+    let step = match t {
+        Ok(step) => step,
+        Err(e) => return e.number(),
+    };
+    match step {
         Step::Record(k, passed, next) => {
             let shortest = mark(k.shortest);
             *out = [
@@ -94,7 +94,6 @@ fn put_step(t: Step, refusal: u32, out: &mut [u64; 9]) -> u32
             *out = [0, 0, 0, 0, next.at as u64, 0, 0, 0, next.since as u64];
             0
         }
-        Step::Refused => refusal,
     }
 }
 
@@ -110,8 +109,7 @@ pub extern "C" fn brine_step(
     ensures value { result ≡ number (finished_passing s.now end (cursor at since)) }
     ensures out_after { out.new ≡ step_places (finished_passing s.now end (cursor at since)) out.old }
 {
-    let t = Cursor { at, since }.step(s, end);
-    put_step(t, 1, out)
+    put_step(Cursor { at, since }.step(s, end), out)
 }
 
 // A step of the arriving walk.
@@ -126,8 +124,7 @@ pub extern "C" fn brine_arrive(
     ensures value { result ≡ number (arriving_passing limit a.now (cursor at since)) }
     ensures out_after { out.new ≡ step_places (arriving_passing limit a.now (cursor at since)) out.old }
 {
-    let t = Cursor { at, since }.arrive(a, limit);
-    put_step(t, 2, out)
+    put_step(Cursor { at, since }.arrive(a, limit), out)
 }
 
 // A step of a run.
@@ -136,10 +133,10 @@ pub extern "C" fn brine_run(s: &[u8], at: usize, out: &mut [u64; 7]) -> u32
     ensures value { result ≡ 0 }
     ensures out_after { out.new ≡ item_places (run_step s.now at) out.old }
 {
-    let t = Run { at }.step(s);
-    match t {
-        RunNext::Item(k, next) => put(k, next.at, out),
-        RunNext::End => *out = [0, 0, 0, 0, at as u64, 0, 0],
+    let run = Run { at };
+    match run.step(s) {
+        Some((k, next)) => put(k, next.at, out),
+        None => *out = [0, 0, 0, 0, at as u64, 0, 0],
     }
     0
 }
@@ -150,10 +147,10 @@ pub extern "C" fn brine_item(s: &[u8], tag: usize, ber: bool, at: usize, out: &m
     ensures value { result ≡ 0 }
     ensures out_after { out.new ≡ item_places (item_step tag ber s.now at) out.old }
 {
-    let t = Local { at }.step(s, Coding { tag, ber });
-    match t {
-        LocalNext::Item(k, next) => put(k, next.at, out),
-        LocalNext::End => *out = [0, 0, 0, 0, at as u64, 0, 0],
+    let items = Local { at };
+    match items.step(s, Coding { tag, ber }) {
+        Some((k, next)) => put(k, next.at, out),
+        None => *out = [0, 0, 0, 0, at as u64, 0, 0],
     }
     0
 }

@@ -256,7 +256,13 @@ module _ (s : List ℕ) where
         (λ h. let z : OverLimit ≡ e = let y = lt-ltb _ _ h in cc in rw (sym z, arriving_refuses k most s h))
         (λ h. absurd (let z : ◌≡◌ {A = ℕ} 0 1 = let y = le-ltb most (length s) (omega arith) in cc in omega arith))
 
-    -- inside its bounds a step is what the turns lead to
+    -- inside its bounds it refuses nothing
+    pub on_never : (way : Way) (e limit : ℕ) → bounds_of way s ≡ Ok (e, limit) → (n : ℕ) (q : Cursor ℕ) → step_on way s k ≡ refused n q → ⊥
+    unfolding step_on
+    on_never (Finished end) e limit b n q x = passing_never k _ (not-refused s end k.at (finished_bounds end e limit b).0) n q (sym x)
+    on_never (Arriving most) e limit b n q x = passing_never k _ (not-past_limit most s k.at (arriving_bounds most e limit b).0) n q (sym x)
+
+    -- and a step is what the turns lead to
     pub on_found : (way : Way) (e limit : ℕ) → bounds_of way s ≡ Ok (e, limit) → (r : Klv) → walked limit s e k.at ≡ Found r → step_on way s k ≡ found (counted (last_on k) (item 16 s r)) (cursor (past r) (past r))
     unfolding step_on rest_of
     on_found (Finished end) e limit b r w = let x = finished_bounds end e limit b in finished-counts k s end x.0 r (rw (sym x.1, sym x.2) at w)

@@ -7,7 +7,7 @@ ghost use Rattle.walk.specs.Rules.{rules};
 ghost use Rattle.walk.specs.declared.Turn.TheVariants as turn;
 ghost use Rattle.walk.specs.Walk.{on_turn, walked};
 ghost use Rattle.walk.specs.Passed.{finished_passing, arriving_passing};
-ghost use Rattle.walk.specs.Told.{cursor_of, told, step_on};
+ghost use Rattle.walk.specs.Told.{cursor_of, refused_by, told, step_on};
 ghost use Rattle.walk.specs.Ways.{bounds_of, rest_of};
 
 use klv::Klv;
@@ -113,6 +113,18 @@ pub enum WalkError {
     ShortBuffer,
     // 2: there are more bytes than the limit.
     OverLimit,
+}
+
+impl WalkError {
+    // Its number: docs/RULES.md, "What a call can say".
+    pub fn number(self) -> u32
+        ensures { result ≡ refused_by self }
+    {
+        match self {
+            WalkError::ShortBuffer => 1,
+            WalkError::OverLimit => 2,
+        }
+    }
 }
 
 // Which walk it is: the finished walk up to an end, or the arriving walk within a limit.

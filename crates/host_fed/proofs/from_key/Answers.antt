@@ -20,7 +20,7 @@ pub returns-then-n-v : goal.returns-then-n-v
 returns-then-n-v c =
     let t = c.requires.begins in
     is-nothing_in _ _ _ _ _ (begins-nothing _ _ _ t (omega (arith, c.if-n-v.true)))
-    (c.put_places.ensures ∙ key-kept c.args.state.now c.args.piece.now c.requires.state_value t.many _ _ (numbers (goal.at.returns-then-n-v c).After-struct_known-1) _ _ _ (ap (λ (k : Klv). k.at) t.klv) c.u64_of-lead.ensures c.eight_of-eight.ensures t.key t.may)
+    (c.put_places.ensures ∙ key-kept c.args.state.now c.args.piece.now c.requires.state_value t.many _ _ (numbers (goal.at.returns-then-n-v c).After-struct_known-1) _ _ _ (ap (λ (k : Klv). k.at) t.klv) c.from-lead.ensures c.eight_of-eight.ensures t.key t.may)
 
 pub returns : goal.returns
 returns c =

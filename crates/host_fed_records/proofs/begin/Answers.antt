@@ -1,16 +1,15 @@
 -- `host_fed_records::begin` meets its contract: a value is waited for, or a search starts where the numbers say, or the state is made.
-use mathlib.Core.Path.{refl}
 use mathlib.Core.List.{[]}
 use Rattle.host_fed_states.proofs.Searches.{searching}
 use Rattle.host_fed_states.proofs.Values.{waited_tells}
-use Rattle.host_fed_records.proofs.Beginning.{begun-starts, starts_from}
+use Rattle.host_fed_records.proofs.Beginning.{starts_from}
 use Rattle.host_fed_records.proofs.begin.Goals as goal
 
 pub returns-then-v-ne0 : goal.returns-then-v-ne0
 returns-then-v-ne0 c = c.within.ensures
 
 pub returns-then-b-piece : goal.returns-then-b-piece
-returns-then-b-piece c = begun-starts _ _ _ _ _ _ _ _ _ refl refl (starts_from _ _ _ [] _ _ [] _ _ c.requires.most_nonzero (searching _ _ _ c.starting-b.ensures c.if-b-piece.true))
+returns-then-b-piece c = (starts_from _ _ _ [] _ _ [] _ _ c.requires.most_nonzero (searching _ _ _ c.starting-b.ensures c.if-b-piece.true))
 
 pub returns : goal.returns
 returns c = c.resume.ensures

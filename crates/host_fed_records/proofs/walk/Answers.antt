@@ -9,7 +9,9 @@ use lib.Dec.{ltb}
 use lib.ListN.{length}
 use lib.Seq.{length-sets}
 use Rattle.steps.specs.Next.{cursor}
+use Rattle.std.specs.Prelude.{Result, Ok}
 use Rattle.walk.specs.declared.Step.{Step}
+use Rattle.walk.specs.declared.WalkError.{WalkError}
 use Rattle.walk.specs.Passed.{arriving_passing}
 use Rattle.walk.specs.Told.{told}
 use Rattle.fed_states.specs.declared.State.{State}
@@ -23,7 +25,7 @@ use Rattle.host_fed_states.specs.Places.{state_of, places_in, flags_put, seeking
 use Rattle.host_fed_states.proofs.Laws.{flags_placed}
 use Rattle.host_fed_states.proofs.Kept.{rest-same}
 use Rattle.host_fed_records.proofs.Putting.{ran-records, ran_labels}
-use Rattle.host_fed_records.proofs.Walking.{rest-of, within, Got, got, waits, never}
+use Rattle.host_fed_records.proofs.Walking.{rest-of, within, Got, got, waits, has-step}
 use Rattle.host_fed_records.proofs.Walks.{walks_start, place-within, walks_waits, walks_next, walks_over}
 use borrow.Author.Rules.{rules}
 use Rattle.host_fed_records.proofs.walk.Goals as goal
@@ -45,8 +47,8 @@ numbers : (st : State) (piece : List ℕ) (i : ℕ) → Fits piece st.limit (too
 numbers st piece i f l m p h = let x = place-within st piece i 0 0 [] [] f p h in record { stream = omega (arith, x.0); piece = omega (arith, x.1) }
 
 -- what a step says, where the limit is the state's
-says : (tail : List ℕ) (here p limit bound : ℕ) {s r : Step} → limit ≡ bound → told 2 tail (cursor p p) s ≡ arriving_passing (limit - here) tail (cursor p p) → s ≡ r
-    → told 2 tail (cursor p p) r ≡ arriving_passing (bound - here) tail (cursor p p)
+says : (tail : List ℕ) (here p limit bound : ℕ) {s r : Result Step WalkError} → limit ≡ bound → told tail (cursor p p) s ≡ arriving_passing (limit - here) tail (cursor p p) → s ≡ r
+    → told tail (cursor p p) r ≡ arriving_passing (bound - here) tail (cursor p p)
 says tail here p limit bound l t e = rw (l, e) at t
 
 -- where the walk waits
@@ -59,18 +61,18 @@ returns-in-Rests c =
     let i = c.loop-c.invariant.0 in
     let q = c.in-Rests.c.at in
     let k = rest-same (seeking_of (state_of a.state.now) a.here c.loop-c.since) tail q in
-    walks_waits st _ _ _ _ _ _ f i _ (waits st _ _ f _ _ i.label i.more _ (says _ _ _ _ _ c.limit_of-limit.ensures c.arrive-t.ensures c.in-Rests.is))
+    walks_waits st _ _ _ _ _ _ f i _ (waits st _ _ f _ _ i.label i.more _ (says _ _ _ _ _ c.limit_of-limit.ensures c.arrive.ensures (c.unwrap.ensures ∙ ap Ok c.in-Rests.is)))
     (c.put_flags.ensures ∙ ap flags_put c.put_rest.ensures ∙ ap (λ (x : List ℕ). flags_put (places_in x (rest_of (seeking_of (state_of x) a.here c.loop-c.since) tail q))) c.loop-c.invariant.1
     ∙ flags_placed a.state.now (rest_of (seeking_of (state_of a.state.now) a.here c.loop-c.since) tail q) k.limit k.known k.live) refl
 
-pub returns-in-Refused : goal.returns-in-Refused
-returns-in-Refused c =
+pub unwrap-requires : goal.unwrap-requires
+unwrap-requires c =
     let i = c.loop-c.invariant.0 in
-    absurd (never (seeking_of (state_of c.args.state.now) c.args.here c.args.from) _ _ c.requires.fits c.loop-c.p c.loop-c.since i.label i.more (says _ _ _ _ _ c.limit_of-limit.ensures c.arrive-t.ensures c.in-Refused.is))
+    has-step (seeking_of (state_of c.args.state.now) c.args.here c.args.from) _ _ c.requires.fits c.loop-c.p c.loop-c.since i.label i.more _ (says _ _ _ _ _ c.limit_of-limit.ensures c.arrive.ensures refl)
 
 -- a record
 record-got : (c : goal.In-Record) → Got (seeking_of (state_of c.args.state.now) c.args.here c.args.from) _ _ c.requires.fits c.loop-c.p c.loop-c.since c.loop-c.invariant.0.label c.loop-c.invariant.0.more c.in-Record.r c.in-Record.c.at
-record-got c = got (seeking_of (state_of c.args.state.now) c.args.here c.args.from) _ _ c.requires.fits _ _ _ c.loop-c.invariant.0.more _ _ _ (says _ _ _ _ _ c.limit_of-limit.ensures c.arrive-t.ensures c.in-Record.is)
+record-got c = got (seeking_of (state_of c.args.state.now) c.args.here c.args.from) _ _ c.requires.fits _ _ _ c.loop-c.invariant.0.more _ _ _ (says _ _ _ _ _ c.limit_of-limit.ensures c.arrive.ensures (c.unwrap.ensures ∙ ap Ok c.in-Record.is))
 
 numbers-here : (c : goal.At-loop-c) (p : ℕ) → p ≤ length (rest-of c.args.piece.now c.args.i) → Numbers c.args.here c.args.i p
 numbers-here c p h =
@@ -128,12 +130,6 @@ shape_of-records-in-Rests c = ran-records _ _ c.loop-c.invariant.0.ran
 
 pub shape_of-labels-in-Rests : goal.shape_of-labels-in-Rests
 shape_of-labels-in-Rests c = ran_labels _ _ c.loop-c.invariant.0.ran
-
-pub shape_of-records-in-Refused : goal.shape_of-records-in-Refused
-shape_of-records-in-Refused c = ran-records _ _ c.loop-c.invariant.0.ran
-
-pub shape_of-labels-in-Refused : goal.shape_of-labels-in-Refused
-shape_of-labels-in-Refused c = ran_labels _ _ c.loop-c.invariant.0.ran
 
 pub overflow_add-since : goal.overflow_add-since
 overflow_add-since c = omega (arith, (numbers-here (goal.at.overflow_add-since c).At-loop-c _ (record-got (goal.at.overflow_add-since c).In-Record).most).stream)

@@ -15,7 +15,7 @@ use Rattle.fed.specs.Parts.{having}
 use Rattle.host_fed_states.specs.Places.{state_of, flags_put}
 use Rattle.host_fed_states.proofs.Laws.{front-filled, flags_placed}
 use Rattle.host_fed_states.proofs.Values.{tells-nothing, tells_record}
-use Rattle.host_fed_records.proofs.Beginning.{begun-starts, begun-nothing, begun-over, starts-behind}
+use Rattle.host_fed_records.proofs.Beginning.{begun-nothing, begun-over, starts-behind}
 use Rattle.host_fed_records.proofs.within.Goals as goal
 use Rattle.host_fed_records.proofs.within.Goals.{Start}
 
@@ -27,19 +27,18 @@ returns-then-n-taken c =
     let s = c.args.state.now in
     let t = c.requires.tells in
     rw (c.put_flags.ensures ∙ ap flags_put c.put_having.ensures ∙ flags_placed s (having (state_of s) _) refl refl refl)
-    (begun-nothing _ _ _ _ _ _ _ _ _ _ c.requires.most_nonzero (tells-nothing _ _ _ t (omega (arith, c.if-n-taken.true, t.less, t.due))) c.ended.ensures)
+    (begun-nothing _ _ _ _ _ _ _ _ _ c.requires.most_nonzero (tells-nothing _ _ _ t (omega (arith, c.if-n-taken.true, t.less, t.due))))
 
 pub returns-then-most-taken : goal.returns-then-most-taken
 returns-then-most-taken c =
     rw (c.put_eight-2.ensures, c.put_eight.ensures, front-filled _ _ _ (room (goal.at.returns-then-most-taken c).Start), c.put_record.ensures, c.saturating_sub-passed.ensures)
-    (begun-starts _ _ _ _ _ _ _ _ _ refl refl
-    (starts-behind _ _ _ [] _ _ [] _ _ _ c.requires.most_nonzero (tells_record _ _ _ c.requires.tells (omega (arith, c.if-n-taken.false, c.requires.tells.less, c.requires.tells.due))) (ltb-true _ _ (and_right (ltb 1 c.args.most) _ c.if-most-taken.true)) (ltb-true _ _ (and_left _ _ c.if-most-taken.true))))
+    (starts-behind _ _ _ [] _ _ [] _ _ _ c.requires.most_nonzero (tells_record _ _ _ c.requires.tells (omega (arith, c.if-n-taken.false, c.requires.tells.less, c.requires.tells.due))) (ltb-true _ _ (and_right (ltb 1 c.args.most) _ c.if-most-taken.true)) (ltb-true _ _ (and_left _ _ c.if-most-taken.true)))
 
 pub returns : goal.returns
 returns c =
     let s = c.args.state.now in
     rw (c.put_eight-2.ensures, c.put_eight.ensures, front-filled _ _ _ (room (goal.at.returns c).Start), c.put_record.ensures, c.saturating_sub-passed.ensures, c.put_flags-2.ensures ∙ ap flags_put c.put_done.ensures ∙ flags_placed s (gone_on (state_of s) c.args.v.next (state_of s).label) refl refl refl)
-    (begun-over _ _ _ _ _ _ _ _ _ _ c.requires.most_nonzero (tells_record _ _ _ c.requires.tells (omega (arith, c.if-n-taken.false, c.requires.tells.less, c.requires.tells.due))) _ (λ x y. false≢true (sym (rw (lt-ltb _ _ x, lt-ltb _ _ y) at c.if-most-taken.false))) c.ended-2.ensures)
+    (begun-over _ _ _ _ _ _ _ _ _ _ c.requires.most_nonzero (tells_record _ _ _ c.requires.tells (omega (arith, c.if-n-taken.false, c.requires.tells.less, c.requires.tells.due))) (λ x y. false≢true (sym (rw (lt-ltb _ _ x, lt-ltb _ _ y) at c.if-most-taken.false))))
 
 pub overflow_sub-taken : goal.overflow_sub-taken
 overflow_sub-taken c = let t = c.requires.tells in omega (arith, t.less, t.due)

@@ -51,7 +51,7 @@ returns c =
     let st = (state_of c.args.s.now) in
     let x = length-nine c.args.piece.now 16 (bytes (goal.at.returns c).After-may) (omega (arith, many (goal.at.returns c).Else-not-whole_key)) in
     c.value_of.ensures
-    ∙ rw (c.limit_of-limit.ensures, c.u64_of-lead.ensures, c.eight_at-eight.ensures, x) (begun-value st c.args.piece.now (comes (goal.at.returns c).Else-not-may) c.if-have-ne0.false (key (goal.at.returns c).Else-not-whole_key))
+    ∙ rw (c.limit_of-limit.ensures, c.from-lead.ensures, c.eight_at-eight.ensures, x) (begun-value st c.args.piece.now (comes (goal.at.returns c).Else-not-may) c.if-have-ne0.false (key (goal.at.returns c).Else-not-whole_key))
 
 pub bounds-piece-16 : goal.bounds-piece-16
 bounds-piece-16 c = omega (arith, many (goal.at.bounds-piece-16 c).Else-not-whole_key)

@@ -18,15 +18,15 @@ more : (c : goal.In-loop-i)
     → c.loop-i.n * 256 + get_or c.args.b.now (c.args.at + c.loop-i.i) 0 < 2 ^ 64
 more c =
     let a = c.args in
-    rw (c.loop-i.invariant.1, sym (number_more a.b.now a.at c.loop-i.i)) (number_fits a.b.now a.at (c.loop-i.i + 1) (λ j. (c.type_inv.b j).fits) (omega arith))
+    rw (c.loop-i.invariant, sym (number_more a.b.now a.at c.loop-i.i)) (number_fits a.b.now a.at (c.loop-i.i + 1) (λ j. (c.type_inv.b j).fits) (omega arith))
 
 pub loop-i-preserved : goal.loop-i-preserved
 loop-i-preserved c =
     let a = c.args in
-    (omega arith, rw (c.u64_of.ensures, c.loop-i.invariant.1) (sym (number_more a.b.now a.at c.loop-i.i)))
+    rw (c.from.ensures, c.loop-i.invariant) (sym (number_more a.b.now a.at c.loop-i.i))
 
 pub returns : goal.returns
-returns c = let e : c.loop-i.i ≡ 8 = omega (arith, c.loop-i.invariant.0) in rw e at c.loop-i.invariant.1
+returns c = let e : c.loop-i.i ≡ 8 = omega arith in rw e at c.loop-i.invariant
 
 pub overflow_mul-n : goal.overflow_mul-n
 overflow_mul-n c = omega (arith, more (goal.at.overflow_mul-n c).In-loop-i)
@@ -39,9 +39,3 @@ bounds-b-at c = omega arith
 
 pub overflow_add-n : goal.overflow_add-n
 overflow_add-n c = omega (arith, more (goal.at.overflow_add-n c).In-loop-i)
-
-pub overflow_add-i : goal.overflow_add-i
-overflow_add-i c = omega arith
-
-pub loop-i-smaller : goal.loop-i-smaller
-loop-i-smaller c = omega arith

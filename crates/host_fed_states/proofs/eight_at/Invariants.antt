@@ -1,11 +1,7 @@
 -- `host_fed_states::eight_at` meets its contract: the number so far is that of the bytes so far.
-use Prim.Native.Nat.{◌-◌, ◌≤◌}
 use mathlib.Core.Path.{◌≡◌}
 use Rattle.parts.specs.Number.{number_at}
 use Rattle.host_fed_states.proofs.eight_at.Given as goal
 
 abbrev pub invariant-loop-i : goal.invariant-loop-i
-invariant-loop-i l = (l.i ≤ 8) × (l.n ≡ number_at l.b l.at l.i)
-
-abbrev pub decreases-loop-i : goal.decreases-loop-i
-decreases-loop-i l = 8 - l.i
+invariant-loop-i l = l.n ≡ number_at l.b l.at l.i

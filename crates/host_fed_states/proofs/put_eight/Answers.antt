@@ -3,7 +3,6 @@ use Prim.Native.Nat.{ℕ, suc, ◌-◌}
 use mathlib.Core.Path.{◌≡◌, refl, sym, ◌∙◌}
 use mathlib.Core.List.{List}
 use native.Mathlib.Omega.{arith}
-use lib.ListN.{length-set}
 use lib.Seq.{sets}
 use Rattle.host_fed_states.specs.Places.{bytes_of}
 use Rattle.host_fed_states.proofs.Laws.{put_less, eight-put, eight_none}
@@ -13,7 +12,7 @@ pub loop-i-preserved : goal.loop-i-preserved
 loop-i-preserved c =
     let a = c.args in
     let e : suc (c.loop-i.i - 1) ≡ c.loop-i.i = omega arith in
-    (omega arith, simp length-set c.loop-i.invariant.1, put_less c.loop-i.b a.at (c.loop-i.i - 1) c.loop-i.rest ∙ rw e c.loop-i.invariant.2)
+    put_less c.loop-i.b a.at (c.loop-i.i - 1) c.loop-i.rest ∙ rw e c.loop-i.invariant
 
 -- of no bytes none is put
 none : (l : List ℕ) (at i v : ℕ) → i ≡ 0 → l ≡ sets l at (bytes_of i v)
@@ -28,25 +27,16 @@ returns-then-b-at c = eight_none _ _ _ (omega (arith, c.if-b-at.true))
 
 pub returns : goal.returns
 returns c =
-    none c.loop-i.b c.args.at c.loop-i.i c.loop-i.rest (omega arith) ∙ c.loop-i.invariant.2 ∙ sym (eight-put _ _ _ (omega arith))
+    none c.loop-i.b c.args.at c.loop-i.i c.loop-i.rest (omega arith) ∙ c.loop-i.invariant ∙ sym (eight-put _ _ _ (omega arith))
 
 pub overflow_sub-b : goal.overflow_sub-b
 overflow_sub-b c = omega (arith, c.if-b-lt8.false)
 
 pub loop-i-init : goal.loop-i-init
-loop-i-init c = (omega arith, refl, refl)
-
-pub overflow_sub-i : goal.overflow_sub-i
-overflow_sub-i c = omega arith
+loop-i-init c = refl
 
 pub overflow_add-b : goal.overflow_add-b
 overflow_add-b c = omega (arith, c.if-b-at.false)
 
 pub bounds-b-at : goal.bounds-b-at
 bounds-b-at c = omega (arith, c.if-b-at.false)
-
-pub loop-i-smaller : goal.loop-i-smaller
-loop-i-smaller c = omega arith
-
-pub shape_of-b : goal.shape_of-b
-shape_of-b c = c.loop-i.invariant.1

@@ -13,7 +13,7 @@ ber : (c : goal.Start) → length c.args.st.ber ≡ 9
 ber c = search rules
 
 pub returns : goal.returns
-returns c = rw (c.put_places.ensures, c.eight_at-first.ensures, c.eight_at-last.ensures, c.u64_of-lead.ensures, c.eight_at-eight.ensures) refl
+returns c = rw (c.put_places.ensures, c.eight_at-first.ensures, c.eight_at-last.ensures, c.from-lead.ensures, c.eight_at-eight.ensures) refl
 
 pub eight_at-first-requires : goal.eight_at-first-requires
 eight_at-first-requires c = omega (arith, label (goal.at.eight_at-first-requires c).Start)

@@ -14,7 +14,7 @@ ber c = search rules
 
 pub returns : goal.returns
 returns c =
-    rw (c.mark-known.ensures, c.mark-live.ensures, c.eight_at.ensures, c.eight_at-2.ensures, c.u64_of.ensures, c.eight_at-3.ensures)
+    rw (c.mark-known.ensures, c.mark-live.ensures, c.eight_at.ensures, c.eight_at-2.ensures, c.from.ensures, c.eight_at-3.ensures)
     refl
 
 pub eight_at-requires : goal.eight_at-requires

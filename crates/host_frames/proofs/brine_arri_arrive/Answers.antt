@@ -6,5 +6,5 @@ use Rattle.host_frames.proofs.brine_arri_arrive.Goals as goal
 
 pub returns : goal.returns
 returns c =
-    let s = c.arrive-t.ensures in
+    let s = c.arrive.ensures in
     record { value = c.put.ensures.value _ ∙ ap status_of s; out_after = c.put.ensures.out_after _ ∙ ap (λ (t : FrameTold). places_of t c.args.out.now) s }

@@ -7,16 +7,16 @@ use Rattle.host_frames.proofs.put.Goals as goal
 
 pub returns-in-Frame : goal.returns-in-Frame
 unfolding number told places_of shown_places
-returns-in-Frame c = rw (c.in-Frame.is, c.mark-overlong.ensures) record { value = (λ k. refl); out_after = (λ k. refl) }
+returns-in-Frame c = rw (c.in-Ok.is, c.in-Frame.is, c.mark-overlong.ensures) record { value = (λ k. refl); out_after = (λ k. refl) }
 
 pub returns-in-Given : goal.returns-in-Given
 unfolding number told places_of shown_places
-returns-in-Given c = rw c.in-Given.is record { value = (λ k. refl); out_after = (λ k. refl) }
+returns-in-Given c = rw (c.in-Ok.is, c.in-Given.is) record { value = (λ k. refl); out_after = (λ k. refl) }
 
 pub returns-in-Rests : goal.returns-in-Rests
 unfolding number told places_of shown_places
-returns-in-Rests c = rw c.in-Rests.is record { value = (λ k. refl); out_after = (λ k. refl) }
+returns-in-Rests c = rw (c.in-Ok.is, c.in-Rests.is) record { value = (λ k. refl); out_after = (λ k. refl) }
 
-pub returns-in-Refused : goal.returns-in-Refused
+pub returns-in-Err : goal.returns-in-Err
 unfolding number told places_of shown_places
-returns-in-Refused c = rw c.in-Refused.is record { value = (λ k. refl); out_after = (λ k. refl) }
+returns-in-Err c = rw (c.in-Err.is, c.number.ensures) record { value = (λ k. refl); out_after = (λ k. refl) }

@@ -3,8 +3,8 @@ use mathlib.Core.Path.{refl}
 use Rattle.host_walk.proofs.Laws.{is_found, is-nothing}
 use Rattle.host_walk.proofs.brine_run.Goals as goal
 
-pub returns-in-Item : goal.returns-in-Item
-returns-in-Item c = record { value = refl; out_after = rw c.put.ensures (is_found _ _ _ _ (rw c.in-Item.is at c.step-t.ensures)).1 }
+pub returns-in-Some : goal.returns-in-Some
+returns-in-Some c = record { value = refl; out_after = rw c.put.ensures (is_found _ _ _ _ (rw c.in-Some.is at c.step.ensures)).1 }
 
-pub returns-in-End : goal.returns-in-End
-returns-in-End c = record { value = refl; out_after = (is-nothing _ _ _ (rw c.in-End.is at c.step-t.ensures)).1 }
+pub returns-in-None : goal.returns-in-None
+returns-in-None c = record { value = refl; out_after = (is-nothing _ _ _ (rw c.in-None.is at c.step.ensures)).1 }

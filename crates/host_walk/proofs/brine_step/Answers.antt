@@ -10,4 +10,4 @@ use Rattle.host_walk.proofs.brine_step.Goals as goal
 
 pub returns : goal.returns
 returns c =
-    let s = c.step-t.ensures in record { value = c.put_step.ensures.by_index _ _ ∙ ap number s; out_after = c.put_step.ensures.by_index_2 _ _ ∙ ap (λ (t : ToldAt (Cursor ℕ) (Passed Item)). step_places t c.args.out.now) s }
+    let s = c.step.ensures in record { value = c.put_step.ensures.by_index _ _ ∙ ap number s; out_after = c.put_step.ensures.by_index_2 _ _ ∙ ap (λ (t : ToldAt (Cursor ℕ) (Passed Item)). step_places t c.args.out.now) s }

@@ -6,12 +6,12 @@ use Rattle.host_walk.proofs.put_step.Goals as goal
 
 pub returns-in-Record : goal.returns-in-Record
 unfolding number step_places
-returns-in-Record c = rw (c.in-Record.is, c.mark-shortest.ensures) record { by_index = (λ s k. refl); by_index_2 = (λ s k. refl) }
+returns-in-Record c = rw (c.in-Ok.is, c.in-Record.is, c.mark-shortest.ensures) record { by_index = (λ s k. refl); by_index_2 = (λ s k. refl) }
 
 pub returns-in-Rests : goal.returns-in-Rests
 unfolding number step_places
-returns-in-Rests c = rw c.in-Rests.is record { by_index = (λ s k. refl); by_index_2 = (λ s k. refl) }
+returns-in-Rests c = rw (c.in-Ok.is, c.in-Rests.is) record { by_index = (λ s k. refl); by_index_2 = (λ s k. refl) }
 
-pub returns-in-Refused : goal.returns-in-Refused
+pub returns-in-Err : goal.returns-in-Err
 unfolding number step_places
-returns-in-Refused c = rw c.in-Refused.is record { by_index = (λ s k. refl); by_index_2 = (λ s k. refl) }
+returns-in-Err c = rw (c.in-Err.is, c.number.ensures) record { by_index = (λ s k. refl); by_index_2 = (λ s k. refl) }
