@@ -18,7 +18,6 @@ ghost use Rattle.host_tables.specs.Sequence.{spot_of, position_found, position_f
 use arri_block::Block;
 use canon_sequence::{Identifier, Position};
 use canon_sets::{Metadata, Package};
-use primer::Entry;
 use st436::Lines;
 
 // The header part of a file whose first bytes are s.
@@ -41,11 +40,10 @@ pub extern "C" fn brine_primer(s: &[u8], tag: u64, out: &mut [u64; 2]) -> u32
     ensures value { result ≡ 0 }
     ensures out_after { out.new ≡ start_places (entry_of s.now tag) }
 {
-    let e = primer::find(s, tag);
-    match e {
-        Entry::Label(at) => *out = [1, at as u64],
-        Entry::Nothing => *out = [0, 0],
-    }
+    *out = match primer::find(s, tag) {
+        Some(at) => [1, at as u64],
+        None => [0, 0],
+    };
     0
 }
 
@@ -70,11 +68,10 @@ pub extern "C" fn brine_primer_in(
     ensures value { result ≡ 0 }
     ensures out_after { out.new ≡ start_places (held_for s.now table.now tag) }
 {
-    let e = primer_table::find(s, table, tag);
-    match e {
-        Entry::Label(at) => *out = [1, at as u64],
-        Entry::Nothing => *out = [0, 0],
-    }
+    *out = match primer_table::find(s, table, tag) {
+        Some(at) => [1, at as u64],
+        None => [0, 0],
+    };
     0
 }
 

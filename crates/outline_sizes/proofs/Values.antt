@@ -1,4 +1,5 @@
 -- How long the text of a run's and a set's outline is: each line comes of bytes of its own. Assumes nothing.
+use Rattle.std.specs.Prelude.{Err, Ok, Result}
 use Prim.Native.Nat.{ℕ, zero, suc, ◌+◌, ◌-◌, ◌*◌, ◌≤◌, ◌<◌}
 use mathlib.Core.Path.{◌≡◌, refl}
 use mathlib.Core.List.{List}
@@ -12,8 +13,9 @@ use Rattle.std.specs.Prelude.{Option, Some, None}
 use Rattle.parts.specs.Answer.{Answer, is, none}
 use Rattle.steps.specs.Told.{Told, found, nothing, refused}
 use Rattle.steps.proofs.Laws.{Moves}
-use Rattle.lengths.specs.declared.Length.{Length}
-use Rattle.lengths.specs.declared.Length.TheVariants.{Is, Cut, None}
+use Rattle.lengths.specs.declared.Field.{Field}
+use Rattle.lengths.specs.declared.NoLength.{NoLength}
+use Rattle.lengths.specs.declared.NoLength.TheVariants.{Cut, Invalid}
 use Rattle.klv.specs.declared.Klv.{Klv}
 use Rattle.klv.specs.Item.{Item, item, klv, past, value_of}
 use Rattle.text.specs.Write.{decimal_of}
@@ -92,11 +94,11 @@ item_gives key ber s p t x = rw x at (go (leb (p + key) (length s)) (length_in b
     at_value true k q = omega (arith, length-take key (drop k.at s))
     at_value false k q = refl
 
-    go : (b : Bool) (l : Length) → Gives key p (cond b (by_length key s p l) (nothing p))
+    go : (b : Bool) (l : Result Field NoLength) → Gives key p (cond b (by_length key s p l) (nothing p))
     go false l = refl
-    go true Cut = refl
-    go true None = refl
-    go true (Is f) = at_value (leb f.value (length s - (p + key + f.size))) (klv key p f) (past (klv key p f))
+    go true (Err Cut) = refl
+    go true (Err Invalid) = refl
+    go true (Ok f) = at_value (leb f.value (length s - (p + key + f.size))) (klv key p f) (past (klv key p f))
 
 -- The codings of sets
 
