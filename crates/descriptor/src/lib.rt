@@ -8,7 +8,7 @@ ghost use Rattle.std.specs.Prelude.{◌≡◌, ◌+◌, ◌≤◌, ◌<◌, leng
 ghost use Rattle.descriptor.specs.Fields.{holds, whole_after, finite_rate, rate_after, area_after, fields_after};
 ghost use Rattle.descriptor.specs.Descriptor.{told, descriptor_told};
 
-use items::{Coding, Local, LocalNext};
+use items::{Coding, Local};
 use klv::Klv;
 use parts::{four_at, number_at, two_at};
 
@@ -126,9 +126,7 @@ pub fn read(s: &[u8]) -> Result<Descriptor, ItemPastSet>
     let mut d = Descriptor::default();
     let mut at = 0;
     loop {
-        let c = Local { at };
-        let t = c.step(s, Coding::TWO_TWO);
-        let LocalNext::Item(k, next) = t else {
+        let Some((k, next)) = (Local { at }).step(s, Coding::TWO_TWO) else {
             if s.len() - at < 4 {
                 return Ok(d);
             }

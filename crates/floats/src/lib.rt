@@ -23,12 +23,12 @@
 //     (master as f64 - 32.0) * 0.5 + delta as f64 * 0.1     gain(master, delta)
 #![tactic(auto)]
 
-ghost use Rattle.std.specs.Prelude.{◌≡◌, ◌-◌, ◌^◌, ◌<◌, ◌≤◌, min, from_bits, to_bits};
+ghost use Rattle.std.specs.Prelude.{◌≡◌, ◌-◌, ◌^◌, ◌<◌, ◌≤◌, from_bits, to_bits};
 ghost use Rattle.std.specs.Float.{binary32, binary64};
 ghost use Rattle.std.specs.Float.Ieee.Nearest.{closest};
 ghost use Rattle.std.specs.Float.Ieee.Scale.{finite};
 ghost use Rattle.floats.specs.Rounding.{nearest_f32, narrow_f32, packed_bits};
-ghost use Rattle.floats.specs.Quotients.{ratio, thousandths_f32, low_tenths, offset_tenths, over_thousand, density, milliseconds, gain, metres_of_millimetres, metres_of_mils};
+ghost use Rattle.floats.specs.Quotients.{ratio, thousandths_f32, low_tenths, offset_tenths, over_thousand, density, milliseconds, gain, metres, metres_of_millimetres, metres_of_mils};
 
 // The parts of a float's bits: the weight of the exponent's field, infinity's pattern, and the weight of the sign.
 const EXPONENT_F32: u64 = 0x0080_0000;
@@ -42,20 +42,6 @@ const EXPONENT_F64: u64 = 0x0010_0000_0000_0000;
 const INFINITY_F64: u64 = 0x7ff0_0000_0000_0000;
 
 const SIGN_F64: u64 = 0x8000_0000_0000_0000;
-
-// a - b, or 0 where b is the larger.
-fn saturating_sub(a: u64, b: u64) -> u64
-    ensures { result ≡ a - b }
-{
-    if a < b { 0 } else { a - b }
-}
-
-// The smaller of the two.
-fn least(a: u64, b: u64) -> u64
-    ensures { result ≡ min a b }
-{
-    if a < b { a } else { b }
-}
 
 // v / unit to the nearest whole number, a tie to the even one.
 fn closest(v: u64, unit: u64) -> u64
@@ -81,7 +67,7 @@ fn packed_f32(raised: u64, digits: u64, dropped: u32) -> u32
 {
     let unit = 1u64 << dropped;
     let bits = raised * EXPONENT_F32 + closest(digits, unit);
-    least(bits, INFINITY_F32 as u64) as u32
+    bits.min(u64::from(INFINITY_F32)) as u32
 }
 
 // The f32 nearest to v, a tie to the even one. The count of leading zeros gives the exponent and the rounding place: v has 32 - zeros digits, so of
@@ -108,8 +94,8 @@ pub fn narrow_f32(x: f64) -> f32
     let bits = f64::to_bits(x);
     let field = bits / EXPONENT_F64 % 2048;
     let digits = bits % EXPONENT_F64 + EXPONENT_F64;
-    let dropped = 29 + least(saturating_sub(897, field), 34);
-    let magnitude = packed_f32(saturating_sub(field, 897), digits, dropped as u32);
+    let dropped = 29 + 897u64.saturating_sub(field).min(34);
+    let magnitude = packed_f32(field.saturating_sub(897), digits, dropped as u32);
     let sign = (bits / SIGN_F64) as u32;
     f32::from_bits(sign * SIGN_F32 + magnitude)
 }
@@ -233,16 +219,23 @@ pub fn gain(master: u16, delta: u8) -> f64
     ((master as f64) - 32.0) * 0.5 + (delta as f64) * 0.1
 }
 
-// v millimetres in metres: multiplied in f64, then narrowed once.
+// v units of so many metres: multiplied in f64, then narrowed once.
+fn metres(v: u32, unit: f64) -> f32
+    ensures { result ≡ metres v unit }
+{
+    narrow_f32((v as f64) * unit)
+}
+
+// v millimetres in metres.
 pub fn metres_of_millimetres(v: u32) -> f32
     ensures { result ≡ metres_of_millimetres v }
 {
-    narrow_f32((v as f64) * 0.001)
+    metres(v, 0.001)
 }
 
-// v thousandths of an inch in metres: multiplied in f64, then narrowed once.
+// v thousandths of an inch in metres.
 pub fn metres_of_mils(v: u32) -> f32
     ensures { result ≡ metres_of_mils v }
 {
-    narrow_f32((v as f64) * 0.0000254)
+    metres(v, 0.0000254)
 }

@@ -181,19 +181,15 @@ fn line(to: &impl Print, kind: u8, a: u64, r: u64) {
 
 // Writes a line for each input.
 fn lines(to: &impl Print, kind: u8, inputs: &[u64]) {
-    let mut i = 0;
-    while i < inputs.len() {
-        line(to, kind, inputs[i], sample(kind, inputs[i]));
-        i += 1;
+    for a in inputs {
+        line(to, kind, *a, sample(kind, *a));
     }
 }
 
 // Writes the lines of each kind over the same inputs.
 fn table(to: &impl Print, kinds: &[u8], inputs: &[u64]) {
-    let mut i = 0;
-    while i < kinds.len() {
-        lines(to, kinds[i], inputs);
-        i += 1;
+    for kind in kinds {
+        lines(to, *kind, inputs);
     }
 }
 

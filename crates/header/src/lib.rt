@@ -6,7 +6,7 @@
 ghost use Rattle.std.specs.Prelude.{◌≡◌, ◌+◌, ◌≤◌, min, length};
 ghost use Rattle.header.specs.Header.{told, is_header, size_of, header_of, header_bytes};
 
-use items::{Run, RunNext};
+use items::Run;
 use parts::number;
 
 // A part of the buffer: where it starts and how long it is.
@@ -44,10 +44,7 @@ pub fn find(s: &[u8]) -> Option<Place>
     if !is_header(s) {
         return None;
     }
-    let step = Run { at: 0 }.step(s);
-    let RunNext::Item(k, next) = step else {
-        return None;
-    };
+    let (k, next) = (Run { at: 0 }).step(s)?;
     if k.len < 40 {
         return None;
     }

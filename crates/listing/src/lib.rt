@@ -28,19 +28,13 @@ fn put_records(out: &mut [u8], at: usize, s: &[u8]) -> Lines
     let mut records = 0;
     let mut p = at;
     let mut k = Cursor { at: 0, since: 0 };
-    loop {
-        let t = k.step(s, s.len());
-        match t {
-            Step::Rests(_) => return Lines { records, at: p },
-            Step::Refused => return Lines { records, at: p },
-            Step::Record(r, passed, next) => {
-                let a = put_record(out, p, r.label(s), r, passed, b' ');
-                p = put_byte(out, a, b'\n');
-                records += 1;
-                k = next;
-            }
-        }
+    while let Step::Record(r, passed, next) = k.step(s, s.len()).unwrap() {
+        let a = put_record(out, p, r.label(s), r, passed, b' ');
+        p = put_byte(out, a, b'\n');
+        records += 1;
+        k = next;
     }
+    Lines { records, at: p }
 }
 
 // Puts `records N`.

@@ -1,39 +1,33 @@
--- A signed number of 64 bits is a place, or below 0. Assumes nothing.
-use Prim.Native.Nat.{ℕ}
-use mathlib.Core.Path.{◌≡◌, refl}
-use mathlib.Core.Bool.{true, false}
-use native.Mathlib.Omega.{arith}
-use borrow.Author.Tests.{ltb-true}
-use lib.Dec.{T}
-use lib.IntN.{ℤ, pos, negsuc, nat_abs}
-use lib.Signed.{lt_z, non_neg}
+-- What the library's conversions give, in the words of the definitions. Assumes nothing.
+use Rattle.std.proofs.Common.{◌≡◌, ℕ, ◌∙◌, sym, refl, subst, arith, Result, Ok, Err, ℤ, pos, negsuc}
+use mathlib.Core.Logic.{by_cases}
+use native.Mathlib.Decide.{dec_lt}
+use borrow.Author.Tests.{lt-ltb, le-ltb}
+use lib.IntN.{nat_abs}
 use mir.Syntax.{w64}
-use mir.Val.{Fits, SFits, to_z, of_z}
+use mir.Val.{SFits, to_z, of_z}
 use mir.ValLaws.{to_z-of_z}
-use Rattle.offsets.specs.Offsets.{place_of}
+use Rattle.std.specs.Result.{OkIff, result_unwrap_or}
+use Rattle.std.specs.Int.{FitsUnsignedBits}
+use Rattle.offsets.specs.Offsets.{place_of, offset_of}
 
--- one that is not below 0 is a place
-record Place (z : ℤ) : Type 0 where
-  cast : T (non_neg z) × Fits w64 (nat_abs z)
-  is : nat_abs z ≡ place_of z
-
-place : (z : ℤ) → SFits w64 z → lt_z z (pos 0) ≡ false → Place z
+-- a place is a number that is not below 0
+place : {E : Type 0} (z : ℤ) → SFits w64 z → (r : Result ℕ E) → OkIff r (FitsUnsignedBits 64 z) (nat_abs z) → result_unwrap_or r 0 ≡ place_of z
 unfolding place_of
-place (pos n) f e = record { cast = (tt, record { fits = omega (arith, f.sfits) }); is = refl }
-place (negsuc n) f e = let z : ◌≡◌ {A = ℕ} 0 1 = cc in absurd (omega arith)
+place (pos n) f (Ok x) h = h.1
+place (pos n) f (Err e) h = absurd (h (omega (arith, f.sfits)))
+place (negsuc n) f (Ok x) h = absurd h.0
+place (negsuc n) f (Err e) h = refl
 
-below : (z : ℤ) → lt_z z (pos 0) ≡ true → 0 ≡ place_of z
-unfolding place_of
-below (pos n) e = absurd (omega (arith, ltb-true n 0 e))
-below (negsuc n) e = refl
+pub place_read : {E : Type 0} (z : ℤ) → SFits w64 z → (r : Result ℕ E) → OkIff r (FitsUnsignedBits 64 (to_z w64 (of_z w64 z))) (nat_abs (to_z w64 (of_z w64 z)))
+    → result_unwrap_or r 0 ≡ place_of z
+place_read z f r = subst (λ (y : ℤ). OkIff r (FitsUnsignedBits 64 y) (nat_abs y) → result_unwrap_or r 0 ≡ place_of z) (sym (to_z-of_z w64 z f)) (place z f r)
 
--- as the machine reads them back
-module _ (z : ℤ) (f : SFits w64 z) where
-  pub casts : lt_z (to_z w64 (of_z w64 z)) (pos 0) ≡ false → T (non_neg (to_z w64 (of_z w64 z))) × Fits w64 (nat_abs (to_z w64 (of_z w64 z)))
-  casts e = rw (to_z-of_z w64 z f) (place z f (rw (to_z-of_z w64 z f) at e)).cast
-
-  pub is-place : lt_z (to_z w64 (of_z w64 z)) (pos 0) ≡ false → nat_abs (to_z w64 (of_z w64 z)) ≡ place_of z
-  is-place e = rw (to_z-of_z w64 z f) (place z f (rw (to_z-of_z w64 z f) at e)).is
-
-  pub is_none : lt_z (to_z w64 (of_z w64 z)) (pos 0) ≡ true → 0 ≡ place_of z
-  is_none e = below z (rw (to_z-of_z w64 z f) at e)
+-- a place below 2^63 is a signed number
+pub offset_read : {E : Type 0} (p : ℕ) (r : Result ℤ E) → OkIff r (SFits w64 (pos p)) (pos p) → result_unwrap_or r (negsuc 0) ≡ offset_of p
+unfolding offset_of
+offset_read p (Ok x) h = h.1 ∙ rw (le-ltb 9223372036854775807 p (omega (arith, h.0.sfits)))
+offset_read p (Err e) h =
+    by_cases (dec_lt 9223372036854775807 p)
+    (λ l. rw (lt-ltb 9223372036854775807 p l))
+    (λ l. absurd (h (record { sfits = omega arith })))

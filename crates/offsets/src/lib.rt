@@ -8,18 +8,12 @@ ghost use Rattle.offsets.specs.Offsets.{place_of, offset_of};
 pub fn place_of(offset: i64) -> usize
     ensures { result ≡ place_of offset }
 {
-    if offset < 0 {
-        return 0;
-    }
-    offset as usize
+    usize::try_from(offset).unwrap_or(0)
 }
 
 // A place for the system, -1 where it can have none.
 pub fn offset_of(place: usize) -> i64
     ensures { result ≡ offset_of place }
 {
-    if 9223372036854775807 < place {
-        return -1;
-    }
-    place as i64
+    i64::try_from(place).unwrap_or(-1)
 }

@@ -22,7 +22,7 @@ use Rattle.outline_text.specs.Opening.{set_of, is_run}
 use Rattle.outline_text.specs.Outline.{outline_from, in_set, run_opens, set_opens, run_outline, set_outline}
 use Rattle.outline_text.proofs.Going.{tree_nothing, tree_refused, tree_found}
 use Rattle.outline_leaves.specs.Leaves.{is_leaf}
-use Rattle.outline_leaves.proofs.None.{leaf_in, leaf_low, leaf_high, leaf-in, leaf-none}
+use Rattle.outline_leaves.proofs.Leaf.{leaf_in, leaf_low, leaf_high, leaf-in, leaf-none}
 
 -- two lists of one length that agree outside the leaves of an outline
 pub record But (o : Outline) (s t : List ℕ) : Type 0 where

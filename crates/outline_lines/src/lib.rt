@@ -5,31 +5,18 @@
 // also where there is less room: put into no room, a text is only counted.
 #![tactic(auto)]
 
-ghost use Rattle.std.specs.Prelude.{◌≡◌, ◌+◌};
+ghost use Rattle.std.specs.Prelude.{◌≡◌};
 ghost use Rattle.text.specs.Write.{decimal_of, hex_of};
-ghost use Rattle.outline_lines.specs.Lines.{cap, item_line, rest_of, Added};
+ghost use Rattle.outline_lines.specs.Lines.{item_line, rest_of, Added};
 
 use text::{put_all, put_decimal, put_hex};
-
-// The place n bytes on, or the largest number.
-fn on(at: usize, n: usize) -> usize
-    ensures { result ≡ cap (at + n) }
-{
-    if 0xffff_ffff_ffff_ffff - at < n {
-        return 0xffff_ffff_ffff_ffff;
-    }
-    at + n
-}
 
 // Adds all of s.
 fn add_all(out: &mut [u8], at: usize, s: &[u8]) -> usize
     ensures { Added s.now out.old at out.new result }
 {
-    if out.len() <= at {
-        return on(at, s.len());
-    }
     put_all(out, at, s);
-    on(at, s.len())
+    at.saturating_add(s.len())
 }
 
 // Adds a number in decimal.
@@ -45,12 +32,12 @@ fn add_decimal(out: &mut [u8], at: usize, n: u64) -> usize
 fn add_hex(out: &mut [u8], at: usize, s: &[u8]) -> usize
     ensures { Added (hex_of s.now) out.old at out.new result }
 {
-    let half = on(at, s.len());
+    let end = at.saturating_add(s.len()).saturating_add(s.len());
     if out.len() <= at {
-        return on(half, s.len());
+        return end;
     }
     put_hex(out, at, s);
-    on(half, s.len())
+    end
 }
 
 // Adds an item's line.

@@ -1,13 +1,10 @@
 -- The outline goes as the steps say, and so does a loop that adds its text. Assumes nothing.
+use Rattle.std.specs.Prelude.{Result, Ok, Err, IsOk}
 use Prim.Native.Nat.{ℕ, ◌+◌, ◌-◌, ◌^◌, ◌≤◌}
 use mathlib.Core.Path.{◌≡◌, refl, sym, ◌∙◌}
-use mathlib.Core.List.{List, [], ◌∷◌, ◌++◌, append_assoc, append-nil}
+use mathlib.Core.List.{List, [], ◌++◌, append_assoc, append-nil}
 use mathlib.Core.Bool.{Bool}
-use mathlib.Core.Logic.{⊎_elim}
-use native.Mathlib.Omega.{arith}
 use lib.ListN.{length}
-use types.Run.{OneOf}
-use denote.Enum.Declared.{tag_of}
 use Rattle.parts.specs.Answer.{Answer, is, none}
 use Rattle.steps.specs.Told.{Told, found, nothing, refused}
 use Rattle.steps.specs.Next.{cursor}
@@ -18,12 +15,12 @@ use Rattle.klv.specs.Item.{Item, item}
 use Rattle.items.specs.Items.{item_step}
 use Rattle.items.proofs.Lists.{item_moves}
 use Rattle.walk.specs.declared.Cursor as at
+use Rattle.walk.specs.declared.WalkError.{WalkError}
 use Rattle.walk.specs.declared.Step.{Step}
 use Rattle.walk.specs.declared.Step.TheVariants as step
 use Rattle.walk.specs.Walk.{finished_after, finished_by, stepped, finished_step}
 use Rattle.walk.specs.Passed.{finished_passing}
 use Rattle.walk.specs.Told.{told}
-use Rattle.walk.specs.contracts.Step.{the_type}
 use Rattle.walk.proofs.Answers.{finished-within, not-refused, passing-found, passing-nothing, passing_never}
 use Rattle.records.proofs.Lists.{moves, finished-says}
 use Rattle.records.proofs.Stepping.{stepped_on}
@@ -109,13 +106,16 @@ abbrev pub FileGoing : ℕ → List ℕ → ℕ → List ℕ → ℕ → List �
 FileGoing left s e = Going (run_opens left s) (λ q. 0) (finished_by stepped s e) e (walk_moves s e) 1
 
 -- what a step of the walk answers, within the buffer
-module _ (s : List ℕ) (e p g : ℕ) (h : e ≤ length s) (a : Step) (t : told 1 s (cursor p g) a ≡ finished_passing s e (cursor p g)) where
-  pub walk_record : (k : Klv) (n : ℕ) (next : at.Cursor) → a ≡ step.Record k n next → finished_by stepped s e p ≡ found (item 16 s k) next.at
+module _ (s : List ℕ) (e p g : ℕ) (h : e ≤ length s) (a : Result Step WalkError) (t : told s (cursor p g) a ≡ finished_passing s e (cursor p g)) where
+  pub walk_ok : IsOk a
+  walk_ok = go a t
+    where
+      go : (r : Result Step WalkError) → told s (cursor p g) r ≡ finished_passing s e (cursor p g) → IsOk r
+      go (Ok x) y = refl
+      go (Err x) y = absurd (passing_never _ (finished_step s e p) (not-refused s e p h) _ _ y)
+
+  pub walk_record : (k : Klv) (n : ℕ) (next : at.Cursor) → a ≡ Ok (step.Record k n next) → finished_by stepped s e p ≡ found (item 16 s k) next.at
   walk_record k n next x = sym (finished-within s e p h) ∙ (passing-found _ (finished_step s e p) _ _ (rw x at t)).plain
 
--- the `else` of `let Step::Record(k, _, next) = f else { .. }`
-pub walk-over : (s : List ℕ) (e p g : ℕ) → e ≤ length s → (a : Step) → told 1 s (cursor p g) a ≡ finished_passing s e (cursor p g) → OneOf (1 ∷ 2 ∷ []) (tag_of the_type a)
-    → (q : ℕ) × (finished_by stepped s e p ≡ nothing q)
-walk-over s e p g h (step.Record k n next) t o = absurd (⊎_elim (λ z. omega arith) (λ z. omega arith) o)
-walk-over s e p g h (step.Rests c) t o = (c.at, sym (finished-within s e p h) ∙ (passing-nothing _ (finished_step s e p) _ t).0)
-walk-over s e p g h step.Refused t o = absurd (passing_never _ (finished_step s e p) (not-refused s e p h) _ _ t)
+  pub walk-over : (c : at.Cursor) → a ≡ Ok (step.Rests c) → finished_by stepped s e p ≡ nothing c.at
+  walk-over c x = sym (finished-within s e p h) ∙ (passing-nothing _ (finished_step s e p) _ (rw x at t)).0

@@ -9,7 +9,7 @@ ghost use Rattle.outline_text.specs.Outline.{run_outline, set_outline, file_outl
 ghost use Rattle.outline_text.specs.Text.{text_of};
 ghost use Rattle.outline_text.specs.Said.{said, outline_said, outline_into};
 
-use items::{Coding, Local, LocalNext, Run, RunNext};
+use items::{Coding, Local, Run};
 use outline_lines::{add_item, add_rest};
 use walk::{Cursor, Step};
 
@@ -58,8 +58,7 @@ fn run_outline(s: &[u8], left: usize, level: usize, out: &mut [u8], at: usize) -
     let mut p = 0;
     let mut place = at;
     loop {
-        let f = Run { at: p }.step(s);
-        let RunNext::Item(k, next) = f else {
+        let Some((k, next)) = (Run { at: p }).step(s) else {
             return add_rest(out, place, level, s.len().saturating_sub(p));
         };
         p = next.at;
@@ -88,8 +87,7 @@ fn set_outline(
     let mut p = 0;
     let mut place = at;
     loop {
-        let f = Local { at: p }.step(s, coding);
-        let LocalNext::Item(k, next) = f else {
+        let Some((k, next)) = (Local { at: p }).step(s, coding) else {
             return add_rest(out, place, level, s.len().saturating_sub(p));
         };
         p = next.at;
@@ -110,8 +108,7 @@ fn file_outline(s: &[u8], end: usize, left: usize, out: &mut [u8], at: usize) ->
     let mut p = 0;
     let mut place = at;
     loop {
-        let f = Cursor { at: p, since: p }.step(s, end);
-        let Step::Record(k, _, next) = f else {
+        let Step::Record(k, _, next) = (Cursor { at: p, since: p }).step(s, end).unwrap() else {
             return place;
         };
         p = next.at;

@@ -9,34 +9,26 @@ ghost use Rattle.signed.specs.Signed.{signed_bits, around};
 pub fn signed16(v: u16) -> i16
     ensures { result ≡ signed_bits 16 v }
 {
-    if v < 32768 {
-        v as i16
-    } else {
-        -1 - ((65535 - v) as i16)
-    }
+    u16::cast_signed(v)
 }
 
 // The 64 bits of v as a signed number.
 pub fn signed64(v: u64) -> i64
     ensures { result ≡ signed_bits 64 v }
 {
-    if v < 9223372036854775808 {
-        v as i64
-    } else {
-        -1 - ((18446744073709551615 - v) as i64)
-    }
+    u64::cast_signed(v)
 }
 
 // A byte that counts from 80h.
 pub fn around8(v: u8) -> i16
     ensures { result ≡ around 8 v }
 {
-    (v as i16) - 128
+    i16::from(v) - 128
 }
 
 // Two bytes that count from 8000h.
 pub fn around16(v: u16) -> i32
     ensures { result ≡ around 16 v }
 {
-    (v as i32) - 32768
+    i32::from(v) - 32768
 }

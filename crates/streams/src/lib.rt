@@ -1,13 +1,14 @@
-// What a program is given and what it says of a failure: its words, standard input read to the end of a room, and the line on what the
-// system refused. All of it goes by lent room.
+// What a program is given and what it says of a failure: its words, the path that a word is, standard input read to the end of a room,
+// and the line on what the system refused. All of it goes by lent room.
 #![tactic(auto)]
 
-ghost use Rattle.std.specs.Prelude.{◌≡◌, ◌≤◌, length, IfSome};
+ghost use Rattle.std.specs.Prelude.{◌≡◌, ◌≤◌, length, IfSome, MatchResult};
+ghost use Rattle.std.specs.Str.{IsUtf8};
 ghost use Rattle.io.specs.Counts.{IsPrefixLen};
 ghost use Rattle.streams.specs.Failures.{Tells};
 
 use std::env::FillError;
-use std::io::{Cursor, Error, Read, Write};
+use std::io::{Cursor, Error, Print, Read, Stderr, Write};
 use std::rt::Env;
 use text::{put_all, put_byte};
 
@@ -74,4 +75,25 @@ pub fn put_failure(out: &mut [u8], at: usize, what: &[u8], error: &Error) -> usi
     let q = put_all(out, p, b": ");
     let r = put_all(out, q, &bytes[..k]);
     put_byte(out, r, b'\n')
+}
+
+// Writes the line on a failure to standard error: there is room for a name of 4,096 bytes and what the system says of it. Where even
+// that fails, nothing more is said.
+pub fn fail(to: Stderr, what: &[u8], error: &Error) {
+    let mut out = [0u8; 4480];
+    let n = put_failure(&mut out, 0, what, error);
+    let _ = to.write_all(&out[..n]);
+}
+
+// The system's number for a name that is no text.
+const NO_TEXT: i32 = 84;
+
+// The path that a name is, and the system's error where the name is no text.
+pub fn path_of(name: &[u8]) -> Result<&str, Error>
+    ensures { MatchResult result (λ path. path.now ≡ name.now) (λ _. ¬ (IsUtf8 name.now)) }
+{
+    match str::from_utf8(name) {
+        Ok(path) => Ok(path),
+        Err(_) => Err(Error::from_raw_os_error(NO_TEXT)),
+    }
 }

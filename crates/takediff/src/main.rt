@@ -11,9 +11,9 @@ ghost use Rattle.io.specs.Counts.{IsPrefixLen};
 ghost use Rattle.takes_text.specs.Lines.{difference_lines};
 
 use std::fs::File;
-use std::io::{Error, Print, Seek, SeekFrom, Stderr};
+use std::io::{Print, Seek, SeekFrom};
 use std::rt::{Env, Files, HostRuntime};
-use streams::{put_failure, word};
+use streams::{fail, path_of, word};
 use takes::{Difference, Met, Side, Takes};
 use tapes::Tape;
 
@@ -23,21 +23,11 @@ fn given(rt: &HostRuntime, i: usize) -> bool {
     word(rt, i, &mut first).is_some()
 }
 
-// Writes the line on a failure to standard error. Where even that fails, nothing more is said.
-fn fail(to: Stderr, what: &[u8], error: &Error) {
-    let mut out = [0u8; 4480];
-    let n = put_failure(&mut out, 0, what, error);
-    let _ = to.write_all(&out[..n]);
-}
-
-// The system's number for a name that is no text.
-const NO_TEXT: i32 = 84;
-
 // Opens the file of a name for reading.
 fn open(rt: &HostRuntime, name: &[u8]) -> std::io::Result<File> {
-    match str::from_utf8(name) {
+    match path_of(name) {
         Ok(path) => File::open(rt, path),
-        Err(_) => Err(Error::from_raw_os_error(NO_TEXT)),
+        Err(e) => Err(e),
     }
 }
 
@@ -89,29 +79,13 @@ fn show(rt: &HostRuntime, d: Difference) -> bool {
     }
 }
 
-// Where both files go on, and whether they do.
-#[derive(Drop)]
-struct Onward {
-    takes: Takes,
-    goes: bool,
-}
-
-// Shows what differs at a number.
-fn meet(rt: &HostRuntime, t: Takes, x: Side, y: Side) -> Onward {
+// Shows what differs at a number, and answers where both files go on: none where they don't.
+fn meet(rt: &HostRuntime, t: Takes, x: Side, y: Side) -> Option<Takes> {
     let m = takes::meet(t, x, y);
     match m {
-        Met::Same(u) => Onward {
-            takes: u,
-            goes: true,
-        },
-        Met::Differs(d, u) => Onward {
-            takes: u,
-            goes: show(rt, d),
-        },
-        Met::Over => Onward {
-            takes: t,
-            goes: false,
-        },
+        Met::Same(u) => Some(u),
+        Met::Differs(d, u) => show(rt, d).then_some(u),
+        Met::Over => None,
     }
 }
 
@@ -121,48 +95,36 @@ struct Pair {
     main: Tape,
     backup: Tape,
     takes: Takes,
-    goes: bool,
 }
 
-// Compares the next number.
-fn number(rt: &HostRuntime, p: Pair, main: &mut [u8; 65536], backup: &mut [u8; 65536]) -> Pair {
-    let first = p.main;
-    let second = p.backup;
-    let t = p.takes;
-    let x = tapes::next(rt.stderr(), first, main);
-    let y = tapes::next(rt.stderr(), second, backup);
-    let a = x.tape;
-    let b = y.tape;
+// Compares the next number: none where the files end, or one of them failed.
+fn number(
+    rt: &HostRuntime,
+    p: Pair,
+    main: &mut [u8; 65536],
+    backup: &mut [u8; 65536],
+) -> Option<Pair> {
+    let x = tapes::next(rt.stderr(), p.main, main);
+    let y = tapes::next(rt.stderr(), p.backup, backup);
     if x.failed | y.failed {
-        return Pair {
-            main: a,
-            backup: b,
-            takes: t,
-            goes: false,
-        };
+        return None;
     }
-    let u = x.side;
-    let v = y.side;
-    let o = meet(rt, t, u, v);
-    let takes = o.takes;
-    Pair {
-        main: a,
-        backup: b,
+    let takes = meet(rt, p.takes, x.side, y.side)?;
+    Some(Pair {
+        main: x.tape,
+        backup: y.tape,
         takes,
-        goes: o.goes,
-    }
+    })
 }
 
 // Compares two files, number by number.
 fn compare(rt: &HostRuntime, first: Pair, main: &mut [u8; 65536], backup: &mut [u8; 65536]) {
     let mut p = first;
-    let mut turns = u64::MAX;
-    while turns > 0 {
-        if !p.goes {
+    for _ in 0..u64::MAX {
+        let Some(next) = number(rt, p, main, backup) else {
             return;
-        }
-        p = number(rt, p, main, backup);
-        turns -= 1;
+        };
+        p = next;
     }
 }
 
@@ -173,7 +135,9 @@ fn main(rt: HostRuntime) {
     }
     let a = opened(&rt, 1);
     let b = opened(&rt, 2);
-    let goes = a.file.is_some() & b.file.is_some();
+    if a.file.is_none() | b.file.is_none() {
+        return;
+    }
     let first = Pair {
         main: a,
         backup: b,
@@ -182,7 +146,6 @@ fn main(rt: HostRuntime) {
             backup: 0,
             number: 0,
         },
-        goes,
     };
     let mut main = io::large_buffer();
     let mut backup = io::large_buffer();

@@ -12,11 +12,10 @@ use arri_values::Values;
 use fed_frames::{FrameAnswer, FrameState};
 use fed_states::State;
 use frame_walks::{Camera, FrameElement};
-use parts::{lesser, saturating_sub};
 use std::fs::File;
 use std::io::{Error, Print, Stderr};
 use std::os::unix::fs::FileExt;
-use streams::put_failure;
+use streams::fail;
 use take_frames::Recorded;
 use takes::{Side, Stop};
 
@@ -58,14 +57,14 @@ pub fn unread(file: Option<File>, size: usize) -> Tape
 fn place(s: State) -> usize
     ensures { result ≡ place_of s }
 {
-    std::num::wrapping_add_usize(s.at, s.have)
+    s.at.wrapping_add(s.have)
 }
 
 // How many bytes of a file to read from a place on.
 fn wanted(size: usize, place: usize) -> usize
     ensures { result ≤ 65536 }
 {
-    lesser(saturating_sub(size, place), 65536)
+    size.saturating_sub(place).min(65536)
 }
 
 // A file whose walk has gone on, with so many bytes in the room.
@@ -113,13 +112,6 @@ fn fetch(file: &Option<File>, place: usize, n: usize, room: &mut [u8]) -> Fetche
     }
 }
 
-// Writes the line on a failure to standard error. Where even that fails, nothing more is said.
-fn fail(to: Stderr, what: &[u8], error: &Error) {
-    let mut out = [0u8; 512];
-    let n = put_failure(&mut out, 0, what, error);
-    let _ = to.write_all(&out[..n]);
-}
-
 // Says on standard error what failed, and why. Too few bytes of a read that went well are no trouble of the system's.
 fn say(to: Stderr, what: &[u8], trouble: Option<Error>) {
     let error = trouble.unwrap_or(Error::from_raw_os_error(WENT_WELL));
@@ -127,9 +119,7 @@ fn say(to: Stderr, what: &[u8], trouble: Option<Error>) {
 }
 
 // Reads from the place of the next byte on.
-fn fill(err: Stderr, t: Tape, buf: &mut [u8]) -> Tape
-    requires { 65536 ≡ length buf.old }
-{
+fn fill(err: Stderr, t: Tape, buf: &mut [u8; 65536]) -> Tape {
     let walk = t.walk;
     let s = walk.state;
     let p = place(s);
@@ -167,7 +157,7 @@ fn stage_of(err: Stderr, a: FrameAnswer) -> Stage {
 
 // Feeds the bytes that are in the room, from the i-th on.
 fn feed(err: Stderr, t: Tape, buf: &[u8], i: usize) -> Tape {
-    let f = fed_frames::feed(t.walk, parts::part(buf, i, saturating_sub(t.count, i)));
+    let f = fed_frames::feed(t.walk, parts::part(buf, i, t.count.saturating_sub(i)));
     let walk = f.walk;
     let a = f.answer;
     let stage = stage_of(err, a);
@@ -177,51 +167,27 @@ fn feed(err: Stderr, t: Tape, buf: &[u8], i: usize) -> Tape {
 }
 
 // Feeds what is in the room of the bytes that come next, or reads them.
-fn turn(err: Stderr, t: Tape, buf: &mut [u8]) -> Tape
-    requires { 65536 ≡ length buf.old }
-{
+fn turn(err: Stderr, t: Tape, buf: &mut [u8; 65536]) -> Tape {
     let w = t.walk;
     let s = w.state;
     let p = place(s);
-    let i = saturating_sub(p, t.from);
+    let i = p.saturating_sub(t.from);
     if (t.from <= p) & (i < t.count) {
         return feed(err, t, buf, i);
     }
     fill(err, t, buf)
 }
 
-// Whether a file goes on.
-fn goes(s: Stage) -> bool {
-    match s {
-        Stage::Goes => true,
-        Stage::Frame(_) => false,
-        Stage::Over => false,
-        Stage::Failed => false,
-    }
-}
-
-// Takes turns up to the next frame. A proved loop has to end: it counts its turns down, from a number that no run uses up.
-fn wind(err: Stderr, first: Tape, buf: &mut [u8]) -> Tape
-    requires { 65536 ≡ length buf.old }
-{
+// Takes turns up to the next frame. A proved loop has to end: its turns are counted, to a number that no run comes to.
+fn wind(err: Stderr, first: Tape, buf: &mut [u8; 65536]) -> Tape {
     let mut t = turn(err, first, buf);
-    let mut turns = u64::MAX;
-    while turns > 0 {
-        let s = t.stage;
-        if !goes(s) {
+    for _ in 0..u64::MAX {
+        if !matches!(t.stage, Stage::Goes) {
             return t;
         }
         t = turn(err, t, buf);
-        turns -= 1;
     }
     t
-}
-
-// Room for an element that is not over-long.
-fn room() -> [u8; 8192]
-    ensures { 8192 ≡ length result }
-{
-    [0; 8192]
 }
 
 // What a recorder has of a frame, by its label and its element's bytes.
@@ -267,8 +233,7 @@ fn needed(f: FrameElement) -> usize
     if f.overlong {
         return 0;
     }
-    let k = f.element;
-    lesser(k.len, 8192)
+    f.element.len.min(8192)
 }
 
 // Reads a frame's element. The walk stands behind it, and has its label yet.
@@ -280,7 +245,7 @@ fn read(err: Stderr, t: Tape, f: FrameElement) -> Found
     let label = s.label;
     let k = f.element;
     let n = needed(f);
-    let mut element = room();
+    let mut element = [0u8; 8192];
     let got = fetch(&t.file, k.value, n, &mut element);
     let have = got.count;
     if have != n {

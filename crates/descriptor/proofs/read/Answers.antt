@@ -10,21 +10,21 @@ use Rattle.items.proofs.Laws.{Fit, item-fits}
 use Rattle.items.proofs.Going.{going_start, going_next}
 use Rattle.descriptor.proofs.Laws.{over, cut}
 use Rattle.descriptor.proofs.read.Goals as goal
-use Rattle.descriptor.proofs.read.Goals.{In-Item, In_default}
+use Rattle.descriptor.proofs.read.Goals.{In-Some, In_default}
 
 -- no whole item is left
 is-over : (c : goal.In_default) → item_step 2 false c.args.s.now c.loop-k.at ≡ nothing c.loop-k.at
-is-over c = sym (rw c.in_default.is at c.step-t.ensures)
+is-over c = sym c.in_default.ensures
 
 -- there is one
-is-item : (c : goal.In-Item) → item_step 2 false c.args.s.now c.loop-k.at
-    ≡ found (item 2 c.args.s.now c.in-Item.k) c.in-Item.next.at
-is-item c = sym (rw c.in-Item.is at c.step-t.ensures)
+is-item : (c : goal.In-Some) → item_step 2 false c.args.s.now c.loop-k.at
+    ≡ found (item 2 c.args.s.now c.in-Some.k) c.in-Some.next.at
+is-item c = sym c.in-Some.ensures
 
-fits : (c : goal.In-Item) → Fit 2 c.args.s.now c.loop-k.at
-    (item 2 c.args.s.now c.in-Item.k) c.in-Item.next.at
+fits : (c : goal.In-Some) → Fit 2 c.args.s.now c.loop-k.at
+    (item 2 c.args.s.now c.in-Some.k) c.in-Some.next.at
 fits c = item-fits _ _ _ _ _ _ ((let h : item_step 2 false c.args.s.now c.loop-k.at
-    ≡ found (item 2 c.args.s.now c.in-Item.k) c.in-Item.next.at = sym (rw c.in-Item.is at c.step-t.ensures) in h))
+    ≡ found (item 2 c.args.s.now c.in-Some.k) c.in-Some.next.at = sym c.in-Some.ensures in h))
 
 pub loop-k-init : goal.loop-k-init
 loop-k-init c =
@@ -57,13 +57,13 @@ pub returns-in_default : goal.returns-in_default
 returns-in_default c = cut _ _ _ c.loop-k.invariant (is-over (goal.at.returns-in_default c).In_default) (omega (arith, c.loop-k.invariant))
 
 pub fields_after-d-requires : goal.fields_after-d-requires
-fields_after-d-requires c = omega (arith, fits (goal.at.fields_after-d-requires c).In-Item)
+fields_after-d-requires c = omega (arith, fits (goal.at.fields_after-d-requires c).In-Some)
 
 pub loop-k-smaller : goal.loop-k-smaller
-loop-k-smaller c = omega (arith, fits (goal.at.loop-k-smaller c).In-Item)
+loop-k-smaller c = omega (arith, fits (goal.at.loop-k-smaller c).In-Some)
 
 pub loop-k-preserved : goal.loop-k-preserved
 unfolding two_at
 loop-k-preserved c =
-    let f = fits (goal.at.loop-k-preserved c).In-Item in
-    rw (c.fields_after-d.ensures, c.two_at.ensures) (going_next _ _ _ _ _ _ _ c.loop-k.invariant _ _ (is-item (goal.at.loop-k-preserved c).In-Item) (omega arith))
+    let f = fits (goal.at.loop-k-preserved c).In-Some in
+    rw (c.fields_after-d.ensures, c.two_at.ensures) (going_next _ _ _ _ _ _ _ c.loop-k.invariant _ _ (is-item (goal.at.loop-k-preserved c).In-Some) (omega arith))

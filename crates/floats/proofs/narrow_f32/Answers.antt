@@ -56,7 +56,7 @@ returns c =
     let fit : T (fits binary64 x) = search rules in
     let F : b / 2 ^ 52 % 2048 ≡ e = sym (field b 11 52) in
     let K : c.saturating_sub-2.result ≡ e - 897 = c.saturating_sub-2.ensures ∙ ap (λ (n : ℕ). n - 897) F in
-    let D : 29 + c.least-dropped.result ≡ 29 + min (897 - e) 34 =
-    ap (λ (n : ℕ). 29 + n) (c.least-dropped.ensures ∙ ap (λ (n : ℕ). min n 34) (c.saturating_sub.ensures ∙ ap (λ (n : ℕ). 897 - n) F)) in
+    let D : 29 + c.min-dropped.result ≡ 29 + min (897 - e) 34 =
+    ap (λ (n : ℕ). 29 + n) (c.min-dropped.ensures ∙ ap (λ (n : ℕ). min n 34) (c.saturating_sub.ensures ∙ ap (λ (n : ℕ). 897 - n) F)) in
     let Q = ap₂ (λ (k d : ℕ). packed_bits binary32 k (closest (b % 2 ^ 52 + 2 ^ 52) (2 ^ d))) K D in
     ap (of_bits binary32) (ap₂ (λ (m n : ℕ). m + n) (sign b (wide (goal.at.returns c).After-packed_f32-magnitude)) (c.packed_f32-magnitude.ensures ∙ Q)) ∙ sym (narrow_bits x fit (not_nan x c.if-x.false))

@@ -1,4 +1,4 @@
--- `floats::packed_f32` meets its contract: the unit is 2 ^ dropped, and `least` is `min`. Assumes nothing.
+-- `floats::packed_f32` meets its contract: the unit is 2 ^ dropped, and the library has `min`. Assumes nothing.
 use Rattle.std.proofs.Common.{◌≡◌, ℕ, ◌*◌, ◌%◌, ◌^◌, ◌<◌, ap, ◌∙◌, one-mul, arith, lit<, pow_pos, pow_mono, shl_exact}
 use lib.Ieee.{binary32}
 use lib.Ieee.Nearest.{closest}
@@ -25,4 +25,4 @@ overflow_add-bits c = omega (arith, digits_are (goal.at.overflow_add-bits c).Aft
 
 pub returns : goal.returns
 unfolding packed_bits
-returns c = c.least.ensures ∙ ap (packed_bits binary32 c.args.raised) (digits_are (goal.at.returns c).After-closest)
+returns c = (rw c.from.ensures at c.min.ensures) ∙ ap (packed_bits binary32 c.args.raised) (digits_are (goal.at.returns c).After-closest)

@@ -2,6 +2,6 @@
 use Rattle.klvstream.specs.Named.{Named}
 use Rattle.klvstream.proofs.list.Goals as goal
 
-pub onward-requires : goal.onward-requires
+pub onward-w-requires : goal.onward-w-requires
 unfolding Named
-onward-requires g c = rw c.in-Again.is at c.ending-e.ensures
+onward-w-requires g c = c.in-Again.ensures

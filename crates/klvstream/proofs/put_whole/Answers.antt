@@ -12,4 +12,4 @@ label c = search rules
 pub returns : goal.returns
 returns c =
     let l = c.put_piece.ensures.put in
-    record { out_after = whole _ _ (label (goal.at.returns c).Start) c.requires.piece_len_bound c.requires.in_bounds l; prefix_len = prefix_len_of_le _ _ (put-room l (omega arith)) }
+    record { out_after = whole _ _ (label (goal.at.returns c).Start) c.requires (omega arith) l; prefix_len = prefix_len_of_le _ _ (put-room l (omega arith)) }

@@ -1,10 +1,10 @@
 -- `outline_text::file_outline` meets its contract: its loop adds the text of the records from its place on.
-use mathlib.Core.Path.{refl, sym, ◌∙◌}
+use mathlib.Core.Path.{refl, sym, ap, ◌∙◌}
+use Rattle.std.specs.Prelude.{Ok}
 use native.Mathlib.Omega.{arith}
 use Rattle.outline_lines.proofs.Adding.{length-added}
 use Rattle.outline_text.proofs.Opening.{set_levels, run-leaf, run-set}
-use Rattle.outline_text.proofs.Going.{going_start, going_leaf, going_open, going_over, walk_moves, walk_record, walk-over}
-use borrow.Enum.Refused.{opened}
+use Rattle.outline_text.proofs.Going.{going_start, going_leaf, going_open, going_over, walk_moves, walk_record, walk_ok, walk-over}
 use Rattle.outline_text.proofs.file_outline.Goals as goal
 
 pub loop-k-init : goal.loop-k-init
@@ -13,20 +13,23 @@ loop-k-init c = going_start _ _ _ _ _ _ _ _ (omega arith) (omega arith)
 pub shape_of-out-in_default : goal.shape_of-out-in_default
 shape_of-out-in_default c = length-added c.loop-k.invariant.added
 
+pub unwrap-requires : goal.unwrap-requires
+unwrap-requires c = walk_ok _ _ _ _ c.requires.0 _ c.step.ensures
+
 pub returns-in_default : goal.returns-in_default
 returns-in_default c =
-    let over = walk-over _ _ _ _ c.requires.0 c.step-f.result c.step-f.ensures (opened c.in_default.in_default-own.keys2) in
-    going_over _ _ _ _ _ _ c.loop-k.invariant over.0 over.1 refl
+    let over = walk-over _ _ _ _ c.requires.0 _ c.step.ensures _ (c.unwrap.ensures ∙ ap Ok c.in_default.is) in
+    going_over _ _ _ _ _ _ c.loop-k.invariant _ over refl
 
 pub loop-k-smaller-in_default-set_in : goal.loop-k-smaller-in_default-set_in
 loop-k-smaller-in_default-set_in c =
     let inside = c.requires.0 in
-    omega (arith, walk_moves _ _ _ _ _ (walk_record _ _ _ _ inside _ c.step-f.ensures _ _ _ c.in-Record.is))
+    omega (arith, walk_moves _ _ _ _ _ (walk_record _ _ _ _ inside _ c.step.ensures _ _ _ (c.unwrap.ensures ∙ ap Ok c.in-Record.is)))
 
 pub loop-k-preserved-in_default-set_in : goal.loop-k-preserved-in_default-set_in
 loop-k-preserved-in_default-set_in c =
     let inside = c.requires.0 in
-    going_leaf _ _ _ _ _ _ c.loop-k.invariant _ _ (walk_record _ _ _ _ inside _ c.step-f.ensures _ _ _ c.in-Record.is)
+    going_leaf _ _ _ _ _ _ c.loop-k.invariant _ _ (walk_record _ _ _ _ inside _ c.step.ensures _ _ _ (c.unwrap.ensures ∙ ap Ok c.in-Record.is))
     (rw c.label-key.ensures at c.add_item-place.ensures)
     (run-leaf _ _ _ (sym (rw c.label-key.ensures at c.set_in.ensures) ∙ c.in_default-set_in.is))
 
@@ -41,12 +44,12 @@ set_outline-place-requires c =
 pub loop-k-smaller : goal.loop-k-smaller
 loop-k-smaller c =
     let inside = c.requires.0 in
-    omega (arith, walk_moves _ _ _ _ _ (walk_record _ _ _ _ inside _ c.step-f.ensures _ _ _ c.in-Record.is))
+    omega (arith, walk_moves _ _ _ _ _ (walk_record _ _ _ _ inside _ c.step.ensures _ _ _ (c.unwrap.ensures ∙ ap Ok c.in-Record.is)))
 
 pub loop-k-preserved : goal.loop-k-preserved
 loop-k-preserved c =
     let inside = c.requires.0 in
-    going_open _ _ _ _ _ _ c.loop-k.invariant _ _ (walk_record _ _ _ _ inside _ c.step-f.ensures _ _ _ c.in-Record.is)
+    going_open _ _ _ _ _ _ c.loop-k.invariant _ _ (walk_record _ _ _ _ inside _ c.step.ensures _ _ _ (c.unwrap.ensures ∙ ap Ok c.in-Record.is))
     (rw c.label-key.ensures at c.add_item-place.ensures) _
     (run-set _ _ _ _ (sym (rw c.label-key.ensures at c.set_in.ensures) ∙ c.in-Some.is))
     (rw c.bytes.ensures at c.set_outline-place.ensures)

@@ -1,14 +1,7 @@
--- `signed::signed64` meets its contract: the law of signed reads, at 64 bits. Assumes nothing.
-use native.Mathlib.Omega.{arith}
+-- `signed::signed64` meets its contract: the library's cast reads the bits as a signed number. Assumes nothing.
 use mir.Syntax.{w64}
-use Rattle.signed.proofs.Laws.{below, above, above_fits}
+use Rattle.signed.proofs.Laws.{read_back}
 use Rattle.signed.proofs.signed64.Goals as goal
 
-pub overflow_sub-result-else-v-lt9223372036854775808 : goal.overflow_sub-result-else-v-lt9223372036854775808
-overflow_sub-result-else-v-lt9223372036854775808 c = above_fits w64 c.args.v (omega arith) (omega arith)
-
-pub returns-then-v-lt9223372036854775808 : goal.returns-then-v-lt9223372036854775808
-returns-then-v-lt9223372036854775808 c = below w64 c.args.v (omega arith)
-
-pub returns-else-v-lt9223372036854775808 : goal.returns-else-v-lt9223372036854775808
-returns-else-v-lt9223372036854775808 c = above w64 c.args.v (omega arith) (omega arith)
+pub returns : goal.returns
+returns c = read_back w64 c.args.v c.ranges.v.fits _ (record { sfits = c.cast_signed.type_inv }) c.cast_signed.ensures

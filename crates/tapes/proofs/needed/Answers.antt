@@ -6,4 +6,4 @@ pub returns-then-f : goal.returns-then-f
 returns-then-f c = record { upper_bound = omega arith; value = rw c.if-f.true }
 
 pub returns : goal.returns
-returns c = record { upper_bound = omega (arith, c.lesser.ensures); value = rw (c.if-f.false, c.lesser.ensures) }
+returns c = record { upper_bound = omega (arith, c.min.ensures); value = rw (c.if-f.false, c.min.ensures) }

@@ -1,9 +1,0 @@
--- `floats_samples::table` is safe and ends: the index stays within the kinds.
-use Rattle.std.proofs.Common.{length, ◌-◌, ◌≤◌}
-use Rattle.floats_samples.proofs.table.Given as goal
-
-abbrev pub invariant-loop-i : goal.invariant-loop-i
-invariant-loop-i g l = l.i ≤ length l.kinds
-
-abbrev pub decreases-loop-i : goal.decreases-loop-i
-decreases-loop-i g l = length l.kinds - l.i
