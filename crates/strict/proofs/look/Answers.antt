@@ -65,8 +65,8 @@ pub returns-then-not-ends_within : goal.returns-then-not-ends_within
 returns-then-not-ends_within c =
     sym (past_end _ _ _ (omega arith) (key_of (goal.at.returns-then-not-ends_within c).In-Is) (omega arith) (λ x. omega arith) _ (is-length (goal.at.returns-then-not-ends_within c).In-Is) (ends-past (goal.at.returns-then-not-ends_within c).Then-not-ends_within))
 
-pub overflow_add-next : goal.overflow_add-next
-overflow_add-next c = omega (arith, ends-in (goal.at.overflow_add-next c).Else-not-ends_within)
+pub overflow_add-result : goal.overflow_add-result
+overflow_add-result c = omega (arith, ends-in (goal.at.overflow_add-result c).Else-not-ends_within)
 
 pub returns : goal.returns
 returns c =
