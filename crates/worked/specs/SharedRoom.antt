@@ -1,6 +1,5 @@
 -- The worked numbers of docs/RULES.md, "L11. Two uploads, one index room".
 use Rattle.std.specs.Prelude.{ℕ, ◌≡◌, Bool, true, false, List, ◌++◌, replicate, Some, None, Ok, Err}
-use Rattle.index.specs.declared.Entry.{Entry}
 use Rattle.index.specs.declared.Layout.TheVariants.{Rows, Columns}
 use Rattle.index.specs.Lists.{found_at}
 use Rattle.index_layouts.specs.Turning.{turned}
