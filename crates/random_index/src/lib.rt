@@ -7,7 +7,6 @@ ghost use Rattle.random_index.specs.Index.{pairs_behind, index_of, is_partition,
 ghost use Rattle.random_index.specs.Told.{told, step_told};
 
 use labels::RANDOM_INDEX;
-use lengths::Length;
 
 // Where the pairs are read, and how many are left.
 #[derive(Clone, Copy, Debug, PartialEq, Eq)]
@@ -33,8 +32,7 @@ fn pairs_behind(s: &[u8], p: usize) -> Result<Pairs, PackError>
     ensures { told result ≡ pairs_behind s.now p }
 {
     let at = p + 16;
-    let l = lengths::read(s, at);
-    let Length::Is(f) = l else {
+    let Ok(f) = lengths::read(s, at) else {
         return Err(PackError::Length);
     };
     let v = at + f.size;

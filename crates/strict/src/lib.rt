@@ -6,8 +6,6 @@ ghost use Rattle.std.specs.Prelude.{◌≡◌, ◌+◌, ◌≤◌, length, leb};
 ghost use Rattle.strict.specs.Strict.{strict_step, last_from, strict_of};
 ghost use Rattle.strict.specs.Told.{told, seen_told};
 
-use lengths::Length;
-
 // Why the gate refuses a file. From 10 on a refusal has its place.
 #[derive(Clone, Copy, Debug, PartialEq, Eq)]
 pub enum GateError {
@@ -57,8 +55,7 @@ fn look(s: &[u8], end: usize, p: usize) -> Result<Option<usize>, GateError>
     if first == 0x80 {
         return Err(GateError::Indefinite(p));
     }
-    let l = lengths::read(s, at);
-    let Length::Is(f) = l else {
+    let Ok(f) = lengths::read(s, at) else {
         return Err(GateError::Past(p));
     };
     let v = at + f.size;
