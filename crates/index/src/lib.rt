@@ -2,9 +2,9 @@
 // 48 bits start, 4 bits size of the length field, 12 bits group, 64 bits length.
 #![tactic(auto)]
 
-ghost use Rattle.std.specs.Prelude.{◌≡◌, ◌+◌, ◌*◌, ◌≤◌, ◌<◌, ◌^◌, true, length, ltb};
+ghost use Rattle.std.specs.Prelude.{◌≡◌, ◌+◌, ◌*◌, ◌≤◌, ◌<◌, ◌^◌, true, length, ltb, leb};
 ghost use Rattle.parts.specs.Number.{number_at};
-ghost use Rattle.index.specs.Places.{start_place, rest_place, slot_of, slot_entry, put_slot, most_of, entries};
+ghost use Rattle.index.specs.Places.{start_place, rest_place, slot_of, slot_entry, put_slot, nth, most_of, entries};
 ghost use Rattle.index.specs.Lists.{end_of, good_fields, one, of_three, of_few, starts_by, count_in, look_in, early_in, add_to};
 ghost use Rattle.index.specs.Index.{written, find_of, add_of, after_add, find_from, add_from, after_from};
 
@@ -60,10 +60,8 @@ fn eight_at(b: &[u8], at: usize) -> u64
     ensures { result ≡ number_at b.now at 8 }
 {
     let mut v: u64 = 0;
-    let mut i = 0;
-    while i < 8 {
-        v = v * 256 + parts::u64_of(b[at + i]);
-        i += 1;
+    for i in 0..8 {
+        v = v * 256 + u64::from(b[at + i]);
     }
     v
 }
@@ -161,103 +159,121 @@ fn most_of(pos: u64) -> u64
     pos * 0x1_0000 + 0xffff
 }
 
-// 1 where the record k starts at or before a position, else 0: no branch goes by the record's bytes.
-fn starts_by(
-    l: Layout,
+// Whether the record whose start is at a place starts at or before a position: its first eight bytes tell where six do.
+fn starts_at_or_before(b: &[u8], at: usize, pos: u64, most: u64) -> bool
+    requires { (at + 8 ≤ length b.now) × (most ≡ most_of pos) }
+    ensures { result ≡ leb (number_at b.now at 6) pos }
+{
+    eight_at(b, at) <= most
+}
+
+// The records in use of a room, which stand from its first slot up, or from its last one down.
+#[derive(Clone, Copy)]
+struct Records<'a> {
+    layout: Layout,
     down: bool,
     room: usize,
-    b: &[u8],
+    bytes: &'a [u8],
     used: usize,
+    ghost in_room: { used ≤ room },
+    ghost in_bytes: { room * 16 ≤ length bytes.now },
+}
+
+impl<'a> Records<'a> {
+    // The record k.
+    fn entry(self, k: usize) -> Entry
+        requires { k < self.used }
+        ensures { let r = self.entry in (result ≡ nth r.layout r.down r.room r.bytes.now k) × (result.start < 2 ^ 48) × (result.size < 16) }
+    {
+        let s = slot(self.down, self.room, k);
+        slot_entry(self.layout, self.room, self.bytes, s)
+    }
+
+    // The record that covers a position.
+    fn look(self, pos: u64) -> Option<Found>
+        ensures { let r = self.entry in result ≡ look_in (entries r.layout r.down r.room r.bytes.now r.used) pos }
+    {
+        let asked = Asked {
+            records: self,
+            pos,
+            most: most_of(pos),
+        };
+        let n = asked.count();
+        if n == 0 {
+            return None;
+        }
+        let number = n - 1;
+        let entry = self.entry(number);
+        if before_end(entry, pos) {
+            Some(Found { number, entry })
+        } else {
+            None
+        }
+    }
+
+    // Whether a record begins before the end of the last one.
+    fn early(self, start: u64) -> bool
+        ensures { let r = self.entry in result ≡ early_in (entries r.layout r.down r.room r.bytes.now r.used) start }
+    {
+        if self.used == 0 {
+            return false;
+        }
+        before_end(self.entry(self.used - 1), start)
+    }
+}
+
+// Records that are asked for a position, and the greatest eight bytes of one that starts at or before it.
+#[derive(Clone, Copy)]
+struct Asked<'a> {
+    records: Records<'a>,
     pos: u64,
     most: u64,
-    k: usize,
-) -> usize
-    requires { (k < used) × (used ≤ room) × (room * 16 ≤ length b.now) × (most ≡ most_of pos) }
-    ensures { (result ≡ one (starts_by (entries l down room b.now used) pos k)) × (result ≤ 1) }
-{
-    let at = start_place(l, slot(down, room, k));
-    if eight_at(b, at) <= most { 1 } else { 0 }
+    ghost greatest: { most ≡ most_of pos },
 }
 
-// How many of three records, so many apart, do.
-fn of_three(
-    l: Layout,
-    down: bool,
-    room: usize,
-    b: &[u8],
-    used: usize,
-    pos: u64,
-    most: u64,
-    at: usize,
-    apart: usize,
-) -> usize
-    requires { (at + 3 * apart < used) × (used ≤ room) × (room * 16 ≤ length b.now) × (most ≡ most_of pos) }
-    ensures { (result ≡ of_three (starts_by (entries l down room b.now used) pos) at apart) × (result ≤ 3) }
-{
-    let x = starts_by(l, down, room, b, used, pos, most, at + apart);
-    let y = starts_by(l, down, room, b, used, pos, most, at + 2 * apart);
-    let z = starts_by(l, down, room, b, used, pos, most, at + 3 * apart);
-    x + y + z
-}
-
-// How many of the n records from a place on do.
-fn of_few(
-    l: Layout,
-    down: bool,
-    room: usize,
-    b: &[u8],
-    used: usize,
-    pos: u64,
-    most: u64,
-    at: usize,
-    n: usize,
-) -> usize
-    requires { (at + n ≤ used) × (used ≤ room) × (room * 16 ≤ length b.now) × (most ≡ most_of pos) }
-    ensures { (result ≡ of_few (starts_by (entries l down room b.now used) pos) at n) × (result ≤ n) }
-{
-    let mut k = 0;
-    let mut i = 0;
-    while i < n {
-        k += starts_by(l, down, room, b, used, pos, most, at + i);
-        i += 1;
+impl<'a> Asked<'a> {
+    // 1 where the record k starts at or before the position, else 0: no branch goes by the record's bytes.
+    fn starts_by(self, k: usize) -> usize
+        requires { k < self.records.used }
+        ensures { let r = self.entry.records in (result ≡ one (starts_by (entries r.layout r.down r.room r.bytes.now r.used) self.entry.pos k)) × (result ≤ 1) }
+    {
+        let r = self.records;
+        let at = start_place(r.layout, slot(r.down, r.room, k));
+        usize::from(starts_at_or_before(r.bytes, at, self.pos, self.most))
     }
-    k
-}
 
-// How many of the records start at or before a position: by quarters, which reads starts only.
-fn count(l: Layout, down: bool, room: usize, b: &[u8], used: usize, pos: u64) -> usize
-    requires { (used ≤ room) × (room * 16 ≤ length b.now) }
-    ensures { (result ≡ count_in (entries l down room b.now used) pos) × (result ≤ used) }
-{
-    let most = most_of(pos);
-    let mut at = 0;
-    let mut n = used;
-    while 4 <= n {
-        let apart = n / 4;
-        let k = of_three(l, down, room, b, used, pos, most, at, apart);
-        let on = k * apart;
-        at += on;
-        n -= 3 * apart;
+    // How many of three records, so many apart, do.
+    fn of_three(self, at: usize, apart: usize) -> usize
+        requires { at + 3 * apart < self.records.used }
+        ensures { let r = self.entry.records in (result ≡ of_three (starts_by (entries r.layout r.down r.room r.bytes.now r.used) self.entry.pos) at apart) × (result ≤ 3) }
+    {
+        self.starts_by(at + apart) + self.starts_by(at + 2 * apart) + self.starts_by(at + 3 * apart)
     }
-    let k = of_few(l, down, room, b, used, pos, most, at, n);
-    at + k
-}
 
-// The record that covers a position, in a room whose records stand from the first slot up or from the last one down.
-fn look(l: Layout, down: bool, room: usize, b: &[u8], used: usize, pos: u64) -> Option<Found>
-    requires { (used ≤ room) × (room * 16 ≤ length b.now) }
-    ensures { result ≡ look_in (entries l down room b.now used) pos }
-{
-    let n = count(l, down, room, b, used, pos);
-    if n == 0 {
-        return None;
+    // How many of the n records from a place on do.
+    fn of_few(self, at: usize, n: usize) -> usize
+        requires { at + n ≤ self.records.used }
+        ensures { let r = self.entry.records in (result ≡ of_few (starts_by (entries r.layout r.down r.room r.bytes.now r.used) self.entry.pos) at n) × (result ≤ n) }
+    {
+        let mut k = 0;
+        for i in 0..n {
+            k += self.starts_by(at + i);
+        }
+        k
     }
-    let number = n - 1;
-    let e = slot_entry(l, room, b, slot(down, room, number));
-    if before_end(e, pos) {
-        Some(Found { number, entry: e })
-    } else {
-        None
+
+    // How many of the records do: by quarters, which reads starts only.
+    fn count(self) -> usize
+        ensures { let r = self.entry.records in (result ≡ count_in (entries r.layout r.down r.room r.bytes.now r.used) self.entry.pos) × (result ≤ r.used) }
+    {
+        let mut at = 0;
+        let mut n = self.records.used;
+        while 4 <= n {
+            let apart = n / 4;
+            at += self.of_three(at, apart) * apart;
+            n -= 3 * apart;
+        }
+        at + self.of_few(at, n)
     }
 }
 
@@ -265,23 +281,7 @@ fn look(l: Layout, down: bool, room: usize, b: &[u8], used: usize, pos: u64) -> 
 pub fn find(l: Layout, b: &[u8], used: usize, pos: u64) -> Result<Option<Found>, IndexError>
     ensures { result ≡ find_of l b.now used pos }
 {
-    let room = b.len() / 16;
-    if room < used {
-        return Err(IndexError::Short);
-    }
-    Ok(look(l, false, room, b, used, pos))
-}
-
-// Whether a record begins before the end of the last one.
-fn early(l: Layout, down: bool, room: usize, b: &[u8], used: usize, start: u64) -> bool
-    requires { (used ≤ room) × (room * 16 ≤ length b.now) }
-    ensures { result ≡ early_in (entries l down room b.now used) start }
-{
-    if used == 0 {
-        return false;
-    }
-    let e = slot_entry(l, room, b, slot(down, room, used - 1));
-    before_end(e, start)
+    find_from(l, false, b.len() / 16, b, used, pos)
 }
 
 // Adds a record behind those in use, where room is free.
@@ -303,7 +303,14 @@ fn insert(
     if 0xffff_ffff_ffff < e.start {
         return Err(IndexError::Start);
     }
-    if early(l, down, room, b, used, e.start) {
+    let records = Records {
+        layout: l,
+        down,
+        room,
+        bytes: b,
+        used,
+    };
+    if records.early(e.start) {
         return Err(IndexError::Order);
     }
     if !free {
@@ -343,7 +350,14 @@ pub fn find_from(
     if room < used {
         return Err(IndexError::Short);
     }
-    Ok(look(l, down, room, b, used, pos))
+    let records = Records {
+        layout: l,
+        down,
+        room,
+        bytes: b,
+        used,
+    };
+    Ok(records.look(pos))
 }
 
 // Adds a record behind the last of these, where one is free and may be given out.
