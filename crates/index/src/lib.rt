@@ -167,31 +167,37 @@ fn starts_at_or_before(b: &[u8], at: usize, pos: u64, most: u64) -> bool
     eight_at(b, at) <= most
 }
 
-// The records in use of a room, which stand from its first slot up, or from its last one down.
+// The slots of a room that a list of records uses: so many, from the first one up, or from the last one down.
+#[derive(Clone, Copy, Debug, PartialEq, Eq)]
+pub struct Slots {
+    pub layout: Layout,
+    pub down: bool,
+    pub room: usize,
+    pub used: usize,
+}
+
+// The records in use, in a buffer that holds their room.
 #[derive(Clone, Copy)]
 struct Records<'a> {
-    layout: Layout,
-    down: bool,
-    room: usize,
+    slots: Slots,
     bytes: &'a [u8],
-    used: usize,
-    ghost in_room: { used ≤ room },
-    ghost in_bytes: { room * 16 ≤ length bytes.now },
+    ghost in_room: { slots.used ≤ slots.room },
+    ghost in_bytes: { slots.room * 16 ≤ length bytes.now },
 }
 
 impl<'a> Records<'a> {
     // The record k.
     fn entry(self, k: usize) -> Entry
-        requires { k < self.used }
-        ensures { let r = self.entry in (result ≡ nth r.layout r.down r.room r.bytes.now k) × (result.start < 2 ^ 48) × (result.size < 16) }
+        requires { k < self.slots.used }
+        ensures { let r = self.entry in (result ≡ nth r.slots.layout r.slots.down r.slots.room r.bytes.now k) × (result.start < 2 ^ 48) × (result.size < 16) }
     {
-        let s = slot(self.down, self.room, k);
-        slot_entry(self.layout, self.room, self.bytes, s)
+        let at = self.slots;
+        slot_entry(at.layout, at.room, self.bytes, slot(at.down, at.room, k))
     }
 
     // The record that covers a position.
     fn look(self, pos: u64) -> Option<Found>
-        ensures { let r = self.entry in result ≡ look_in (entries r.layout r.down r.room r.bytes.now r.used) pos }
+        ensures { let r = self.entry in result ≡ look_in (entries r.slots.layout r.slots.down r.slots.room r.bytes.now r.slots.used) pos }
     {
         let asked = Asked {
             records: self,
@@ -213,12 +219,12 @@ impl<'a> Records<'a> {
 
     // Whether a record begins before the end of the last one.
     fn early(self, start: u64) -> bool
-        ensures { let r = self.entry in result ≡ early_in (entries r.layout r.down r.room r.bytes.now r.used) start }
+        ensures { let r = self.entry in result ≡ early_in (entries r.slots.layout r.slots.down r.slots.room r.bytes.now r.slots.used) start }
     {
-        if self.used == 0 {
+        if self.slots.used == 0 {
             return false;
         }
-        before_end(self.entry(self.used - 1), start)
+        before_end(self.entry(self.slots.used - 1), start)
     }
 }
 
@@ -234,26 +240,26 @@ struct Asked<'a> {
 impl<'a> Asked<'a> {
     // 1 where the record k starts at or before the position, else 0: no branch goes by the record's bytes.
     fn starts_by(self, k: usize) -> usize
-        requires { k < self.records.used }
-        ensures { let r = self.entry.records in (result ≡ one (starts_by (entries r.layout r.down r.room r.bytes.now r.used) self.entry.pos k)) × (result ≤ 1) }
+        requires { k < self.records.slots.used }
+        ensures { let r = self.entry.records in (result ≡ one (starts_by (entries r.slots.layout r.slots.down r.slots.room r.bytes.now r.slots.used) self.entry.pos k)) × (result ≤ 1) }
     {
-        let r = self.records;
-        let at = start_place(r.layout, slot(r.down, r.room, k));
-        usize::from(starts_at_or_before(r.bytes, at, self.pos, self.most))
+        let slots = self.records.slots;
+        let at = start_place(slots.layout, slot(slots.down, slots.room, k));
+        usize::from(starts_at_or_before(self.records.bytes, at, self.pos, self.most))
     }
 
     // How many of three records, so many apart, do.
     fn of_three(self, at: usize, apart: usize) -> usize
-        requires { at + 3 * apart < self.records.used }
-        ensures { let r = self.entry.records in (result ≡ of_three (starts_by (entries r.layout r.down r.room r.bytes.now r.used) self.entry.pos) at apart) × (result ≤ 3) }
+        requires { at + 3 * apart < self.records.slots.used }
+        ensures { let r = self.entry.records in (result ≡ of_three (starts_by (entries r.slots.layout r.slots.down r.slots.room r.bytes.now r.slots.used) self.entry.pos) at apart) × (result ≤ 3) }
     {
         self.starts_by(at + apart) + self.starts_by(at + 2 * apart) + self.starts_by(at + 3 * apart)
     }
 
     // How many of the n records from a place on do.
     fn of_few(self, at: usize, n: usize) -> usize
-        requires { at + n ≤ self.records.used }
-        ensures { let r = self.entry.records in (result ≡ of_few (starts_by (entries r.layout r.down r.room r.bytes.now r.used) self.entry.pos) at n) × (result ≤ n) }
+        requires { at + n ≤ self.records.slots.used }
+        ensures { let r = self.entry.records in (result ≡ of_few (starts_by (entries r.slots.layout r.slots.down r.slots.room r.bytes.now r.slots.used) self.entry.pos) at n) × (result ≤ n) }
     {
         let mut k = 0;
         for i in 0..n {
@@ -264,10 +270,10 @@ impl<'a> Asked<'a> {
 
     // How many of the records do: by quarters, which reads starts only.
     fn count(self) -> usize
-        ensures { let r = self.entry.records in (result ≡ count_in (entries r.layout r.down r.room r.bytes.now r.used) self.entry.pos) × (result ≤ r.used) }
+        ensures { let r = self.entry.records in (result ≡ count_in (entries r.slots.layout r.slots.down r.slots.room r.bytes.now r.slots.used) self.entry.pos) × (result ≤ r.slots.used) }
     {
         let mut at = 0;
-        let mut n = self.records.used;
+        let mut n = self.records.slots.used;
         while 4 <= n {
             let apart = n / 4;
             at += self.of_three(at, apart) * apart;
@@ -281,21 +287,19 @@ impl<'a> Asked<'a> {
 pub fn find(l: Layout, b: &[u8], used: usize, pos: u64) -> Result<Option<Found>, IndexError>
     ensures { result ≡ find_of l b.now used pos }
 {
-    find_from(l, false, b.len() / 16, b, used, pos)
+    let slots = Slots {
+        layout: l,
+        down: false,
+        room: b.len() / 16,
+        used,
+    };
+    find_from(slots, b, pos)
 }
 
 // Adds a record behind those in use, where room is free.
-fn insert(
-    l: Layout,
-    down: bool,
-    free: bool,
-    room: usize,
-    b: &mut [u8],
-    used: usize,
-    e: Entry,
-) -> Result<usize, IndexError>
-    requires { (used ≤ room) × (room * 16 ≤ length b.old) × (free ≡ true → used < room) }
-    ensures { (result ≡ add_to free (entries l down room b.old used) e) × (b.new ≡ written result l down room b.old used e) }
+fn insert(slots: Slots, free: bool, b: &mut [u8], e: Entry) -> Result<usize, IndexError>
+    requires { (slots.used ≤ slots.room) × (slots.room * 16 ≤ length b.old) × (free ≡ true → slots.used < slots.room) }
+    ensures { (result ≡ add_to free (entries slots.layout slots.down slots.room b.old slots.used) e) × (b.new ≡ written result slots.layout slots.down slots.room b.old slots.used e) }
 {
     if !good(e) {
         return Err(IndexError::Field);
@@ -303,23 +307,16 @@ fn insert(
     if 0xffff_ffff_ffff < e.start {
         return Err(IndexError::Start);
     }
-    let records = Records {
-        layout: l,
-        down,
-        room,
-        bytes: b,
-        used,
-    };
+    let records = Records { slots, bytes: b };
     if records.early(e.start) {
         return Err(IndexError::Order);
     }
     if !free {
         return Err(IndexError::Full);
     }
-    let s = slot(down, room, used);
-    put_slot(l, room, b, s, e);
-    let next = used + 1;
-    Ok(next)
+    let s = slot(slots.down, slots.room, slots.used);
+    put_slot(slots.layout, slots.room, b, s, e);
+    Ok(slots.used + 1)
 }
 
 // Adds a record behind the last of so many in a lent buffer.
@@ -330,53 +327,37 @@ pub fn add(l: Layout, b: &mut [u8], used: usize, e: Entry) -> Result<usize, Inde
     if room < used {
         return Err(IndexError::Short);
     }
-    insert(l, false, used < room, room, b, used, e)
-}
-
-// The first record that covers a position, of so many that stand from the first slot of a room up, or from its last one down.
-pub fn find_from(
-    l: Layout,
-    down: bool,
-    room: usize,
-    b: &[u8],
-    used: usize,
-    pos: u64,
-) -> Result<Option<Found>, IndexError>
-    ensures { result ≡ find_from l down room b.now used pos }
-{
-    if b.len() / 16 < room {
-        return Err(IndexError::Short);
-    }
-    if room < used {
-        return Err(IndexError::Short);
-    }
-    let records = Records {
+    let slots = Slots {
         layout: l,
-        down,
+        down: false,
         room,
-        bytes: b,
         used,
     };
-    Ok(records.look(pos))
+    insert(slots, used < room, b, e)
+}
+
+// The first record that covers a position, of those in the slots of a room.
+pub fn find_from(slots: Slots, b: &[u8], pos: u64) -> Result<Option<Found>, IndexError>
+    ensures { result ≡ find_from slots.layout slots.down slots.room b.now slots.used pos }
+{
+    if b.len() / 16 < slots.room {
+        return Err(IndexError::Short);
+    }
+    if slots.room < slots.used {
+        return Err(IndexError::Short);
+    }
+    Ok(Records { slots, bytes: b }.look(pos))
 }
 
 // Adds a record behind the last of these, where one is free and may be given out.
-pub fn add_from(
-    l: Layout,
-    down: bool,
-    free: bool,
-    room: usize,
-    b: &mut [u8],
-    used: usize,
-    e: Entry,
-) -> Result<usize, IndexError>
-    ensures { (result ≡ add_from l down free room b.old used e) × (b.new ≡ after_from l down free room b.old used e) }
+pub fn add_from(slots: Slots, free: bool, b: &mut [u8], e: Entry) -> Result<usize, IndexError>
+    ensures { (result ≡ add_from slots.layout slots.down free slots.room b.old slots.used e) × (b.new ≡ after_from slots.layout slots.down free slots.room b.old slots.used e) }
 {
-    if b.len() / 16 < room {
+    if b.len() / 16 < slots.room {
         return Err(IndexError::Short);
     }
-    if room < used {
+    if slots.room < slots.used {
         return Err(IndexError::Short);
     }
-    insert(l, down, free & (used < room), room, b, used, e)
+    insert(slots, free & (slots.used < slots.room), b, e)
 }

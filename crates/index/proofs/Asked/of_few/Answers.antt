@@ -9,11 +9,11 @@ use Rattle.index.proofs.Asked.of_few.Goals as goal
 pub loop-i-init : goal.loop-i-init
 loop-i-init c =
     let r = c.args.self.records in
-    (omega arith, few-none (starts_by (entries r.layout r.down r.room r.bytes.now r.used) c.args.self.pos) c.args.at)
+    (omega arith, few-none (starts_by (entries r.slots.layout r.slots.down r.slots.room r.bytes.now r.slots.used) c.args.self.pos) c.args.at)
 
 pub loop-i-preserved : goal.loop-i-preserved
 loop-i-preserved c =
     let r = c.args.self.records in
     let l = c.loop-i in
     let k = c.starts_by-k.ensures in
-    (omega (arith, k.1), rw (l.invariant.1, k.0, add-one) (few-more (starts_by (entries r.layout r.down r.room r.bytes.now r.used) c.args.self.pos) c.args.at l.i))
+    (omega (arith, k.1), rw (l.invariant.1, k.0, add-one) (few-more (starts_by (entries r.slots.layout r.slots.down r.slots.room r.bytes.now r.slots.used) c.args.self.pos) c.args.at l.i))

@@ -8,4 +8,4 @@ use Rattle.index.proofs.Asked.of_few.Given as goal
 abbrev pub invariant-loop-i : goal.invariant-loop-i
 invariant-loop-i l =
     let r = l.self.records in
-    (l.k ≤ l.i) × (l.k ≡ of_few (starts_by (entries r.layout r.down r.room r.bytes.now r.used) l.self.pos) l.at l.i)
+    (l.k ≤ l.i) × (l.k ≡ of_few (starts_by (entries r.slots.layout r.slots.down r.slots.room r.bytes.now r.slots.used) l.self.pos) l.at l.i)

@@ -15,5 +15,5 @@ as_one false = refl
 pub returns : goal.returns
 returns c =
     let r = c.args.self.records in
-    let e = rw (c.start_place-at.ensures, c.slot.ensures.0) at c.starts_at_or_before.ensures ∙ starts_nth r.layout r.down r.room r.bytes.now r.used c.args.self.pos c.args.k c.requires in
+    let e = rw (c.start_place-at.ensures, c.slot.ensures.0) at c.starts_at_or_before.ensures ∙ starts_nth r.slots.layout r.slots.down r.slots.room r.bytes.now r.slots.used c.args.self.pos c.args.k c.requires in
     rw (c.from.ensures, as_one c.starts_at_or_before.result, e) (refl, one-most _)

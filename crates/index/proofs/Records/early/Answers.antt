@@ -5,9 +5,9 @@ use Rattle.index.proofs.Laws.{early_none, early_some}
 use Rattle.index.proofs.Records.early.Goals as goal
 
 pub returns-then-self-eq0 : goal.returns-then-self-eq0
-returns-then-self-eq0 c = let r = c.args.self in early_none r.layout r.down r.room r.bytes.now r.used c.args.start c.if-self-eq0.true
+returns-then-self-eq0 c = let r = c.args.self in early_none r.slots.layout r.slots.down r.slots.room r.bytes.now r.slots.used c.args.start c.if-self-eq0.true
 
 pub returns : goal.returns
 returns c =
     let r = c.args.self in
-    rw c.entry.ensures.0 at c.before_end.ensures ∙ early_some r.layout r.down r.room r.bytes.now r.used c.args.start (omega (arith, c.if-self-eq0.false))
+    rw c.entry.ensures.0 at c.before_end.ensures ∙ early_some r.slots.layout r.slots.down r.slots.room r.bytes.now r.slots.used c.args.start (omega (arith, c.if-self-eq0.false))
