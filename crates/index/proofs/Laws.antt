@@ -244,3 +244,7 @@ both_true false b h = absurd (let z : ◌≡◌ {A = ℕ} 0 1 = cc in omega arit
 pub find_room : (l : Layout) (b : List ℕ) (n pos : ℕ) → find_from l false (room_of b) b n pos ≡ find_of l b n pos
 unfolding find_from find_of holds
 find_room l b n pos = rw (le-leb (room_of b) (room_of b) (omega arith)) refl
+
+pub add_room : (l : Layout) (b : List ℕ) (n : ℕ) (e : Entry) → add_from l false true (room_of b) b n e ≡ add_of l b n e
+unfolding add_from add_of holds
+add_room l b n e = rw (le-leb (room_of b) (room_of b) (omega arith)) refl

@@ -2,7 +2,7 @@
 // 48 bits start, 4 bits size of the length field, 12 bits group, 64 bits length.
 #![tactic(auto)]
 
-ghost use Rattle.std.specs.Prelude.{◌≡◌, ◌+◌, ◌*◌, ◌≤◌, ◌<◌, ◌^◌, true, length, ltb, leb};
+ghost use Rattle.std.specs.Prelude.{◌≡◌, ◌+◌, ◌*◌, ◌/◌, ◌≤◌, ◌<◌, ◌^◌, true, false, length, ltb, leb};
 ghost use Rattle.parts.specs.Number.{number_at};
 ghost use Rattle.index.specs.Places.{start_place, rest_place, slot_of, slot_entry, put_slot, nth, most_of, entries};
 ghost use Rattle.index.specs.Lists.{end_of, good_fields, one, of_three, of_few, starts_by, count_in, look_in, early_in, add_to};
@@ -283,17 +283,23 @@ impl<'a> Asked<'a> {
     }
 }
 
-// The first listed record that covers a position, of so many records in a lent buffer.
-pub fn find(l: Layout, b: &[u8], used: usize, pos: u64) -> Result<Option<Found>, IndexError>
-    ensures { result ≡ find_of l b.now used pos }
+// The slots of an index of so many records: its room is all that the buffer holds.
+fn upwards(l: Layout, b: &[u8], used: usize) -> Slots
+    ensures { result ≡ record { layout = l; down = false; room = length b.now / 16; used = used } }
 {
-    let slots = Slots {
+    Slots {
         layout: l,
         down: false,
         room: b.len() / 16,
         used,
-    };
-    find_from(slots, b, pos)
+    }
+}
+
+// The first listed record that covers a position, of so many records in a lent buffer.
+pub fn find(l: Layout, b: &[u8], used: usize, pos: u64) -> Result<Option<Found>, IndexError>
+    ensures { result ≡ find_of l b.now used pos }
+{
+    find_from(upwards(l, b, used), b, pos)
 }
 
 // Adds a record behind those in use, where room is free.
@@ -323,17 +329,7 @@ fn insert(slots: Slots, free: bool, b: &mut [u8], e: Entry) -> Result<usize, Ind
 pub fn add(l: Layout, b: &mut [u8], used: usize, e: Entry) -> Result<usize, IndexError>
     ensures { (result ≡ add_of l b.old used e) × (b.new ≡ after_add l b.old used e) }
 {
-    let room = b.len() / 16;
-    if room < used {
-        return Err(IndexError::Short);
-    }
-    let slots = Slots {
-        layout: l,
-        down: false,
-        room,
-        used,
-    };
-    insert(slots, used < room, b, e)
+    add_from(upwards(l, b, used), true, b, e)
 }
 
 // The first record that covers a position, of those in the slots of a room.
