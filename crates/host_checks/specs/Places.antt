@@ -12,18 +12,18 @@ gate_places (nothing q) out = 0 ∷ []
 gate_places (refused n p) out = cond (leb 10 n) (p ∷ []) out
 
 -- 0, or the refusal's number
-unfoldable pub index_status : index.Said → ℕ
+abbrev pub index_status : index.Said → ℕ
 index_status (index.pairs c) = 0
 index_status (index.refused n) = n
 
 -- the first pair's place, and how many there are; a refusal leaves them as they were
-unfoldable pub index_places : index.Said → List ℕ → List ℕ
+abbrev pub index_places : index.Said → List ℕ → List ℕ
 index_places (index.pairs c) out = c.at ∷ c.left ∷ []
 index_places (index.refused n) out = out
 
 -- found, the stream, the offset, whether a partition stands there, the next cursor and the pairs left there; where there is no
 -- pair, the cursor as it was
-unfoldable pub pair_places : ℕ → Told Counted → List ℕ → List ℕ
+abbrev pub pair_places : ℕ → Told Counted → List ℕ → List ℕ
 pair_places left (found c q) out = 1 ∷ c.pair.stream ∷ c.pair.offset ∷ mark c.pair.partition ∷ q ∷ c.left ∷ []
 pair_places left (nothing q) out = 0 ∷ 0 ∷ 0 ∷ 0 ∷ q ∷ left ∷ []
 pair_places left (refused n q) out = out

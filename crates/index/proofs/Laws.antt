@@ -113,9 +113,9 @@ module _ (l : Layout) (down : Bool) (room : ℕ) (b : List ℕ) where
       let e : k ≡ n = omega arith in
       rw e (get_or_at (entries l down room b n) (nth l down room b n) [] (listed [] 0) n (entries-length n)))
 
-  -- a start is tested by the eight bytes at its place
-  pub starts_eight : Bytes b → (n pos k : ℕ) → k < n → leb (number_at b (start_place l (slot_of down room k)) 8) (most_of pos) ≡ starts_by (entries l down room b n) pos k
-  starts_eight f n pos k h = by_eight b (start_place l (slot_of down room k)) f pos ∙ rw (listed_nth n k h) refl
+  -- a start is tested at its place
+  pub starts_nth : (n pos k : ℕ) → k < n → leb (number_at b (start_place l (slot_of down room k)) 6) pos ≡ starts_by (entries l down room b n) pos k
+  starts_nth n pos k h = rw (listed_nth n k h) refl
 
   -- Asking
   module _ (n pos : ℕ) where
@@ -173,10 +173,6 @@ module _ (free : Bool) (es : List Entry) (e : Entry) where
 
 module _ (l : Layout) (b : List ℕ) (n : ℕ) where
   module _ (pos : ℕ) where
-    pub find_short : room_of b < n → Err Short ≡ find_of l b n pos
-    unfolding find_of
-    find_short h = rw (lt-leb _ _ h)
-
     pub find_in : n ≤ room_of b → Ok (look_in (list_of l b n) pos) ≡ find_of l b n pos
     unfolding find_of
     find_in h = rw (le-leb _ _ h)
@@ -243,3 +239,12 @@ module _ (l : Layout) (down : Bool) (room : ℕ) (b : List ℕ) (n : ℕ) where
 pub both_true : (a b : Bool) → (a && b) ≡ true → b ≡ true
 both_true true b h = h
 both_true false b h = absurd (let z : ◌≡◌ {A = ℕ} 0 1 = cc in omega arith)
+
+-- an index is a room from its first slot up
+pub find_room : (l : Layout) (b : List ℕ) (n pos : ℕ) → find_from l false (room_of b) b n pos ≡ find_of l b n pos
+unfolding find_from find_of holds
+find_room l b n pos = rw (le-leb (room_of b) (room_of b) (omega arith)) refl
+
+pub add_room : (l : Layout) (b : List ℕ) (n : ℕ) (e : Entry) → add_from l false true (room_of b) b n e ≡ add_of l b n e
+unfolding add_from add_of holds
+add_room l b n e = rw (le-leb (room_of b) (room_of b) (omega arith)) refl

@@ -2,9 +2,9 @@
 // 48 bits start, 4 bits size of the length field, 12 bits group, 64 bits length.
 #![tactic(auto)]
 
-ghost use Rattle.std.specs.Prelude.{◌≡◌, ◌+◌, ◌*◌, ◌≤◌, ◌<◌, ◌^◌, true, length, ltb};
+ghost use Rattle.std.specs.Prelude.{◌≡◌, ◌+◌, ◌*◌, ◌/◌, ◌≤◌, ◌<◌, ◌^◌, true, false, length, ltb, leb};
 ghost use Rattle.parts.specs.Number.{number_at};
-ghost use Rattle.index.specs.Places.{start_place, rest_place, slot_of, slot_entry, put_slot, most_of, entries};
+ghost use Rattle.index.specs.Places.{start_place, rest_place, slot_of, slot_entry, put_slot, nth, most_of, entries};
 ghost use Rattle.index.specs.Lists.{end_of, good_fields, one, of_three, of_few, starts_by, count_in, look_in, early_in, add_to};
 ghost use Rattle.index.specs.Index.{written, find_of, add_of, after_add, find_from, add_from, after_from};
 
@@ -60,10 +60,8 @@ fn eight_at(b: &[u8], at: usize) -> u64
     ensures { result ≡ number_at b.now at 8 }
 {
     let mut v: u64 = 0;
-    let mut i = 0;
-    while i < 8 {
-        v = v * 256 + parts::u64_of(b[at + i]);
-        i += 1;
+    for i in 0..8 {
+        v = v * 256 + u64::from(b[at + i]);
     }
     v
 }
@@ -161,103 +159,139 @@ fn most_of(pos: u64) -> u64
     pos * 0x1_0000 + 0xffff
 }
 
-// 1 where the record k starts at or before a position, else 0: no branch goes by the record's bytes.
-fn starts_by(
-    l: Layout,
-    down: bool,
-    room: usize,
-    b: &[u8],
-    used: usize,
+// Whether the record whose start is at a place starts at or before a position: its first eight bytes tell where six do.
+fn starts_at_or_before(b: &[u8], at: usize, pos: u64, most: u64) -> bool
+    requires { (at + 8 ≤ length b.now) × (most ≡ most_of pos) }
+    ensures { result ≡ leb (number_at b.now at 6) pos }
+{
+    eight_at(b, at) <= most
+}
+
+// The slots of a room that a list of records uses: so many, from the first one up, or from the last one down.
+#[derive(Clone, Copy, Debug, PartialEq, Eq)]
+pub struct Slots {
+    pub layout: Layout,
+    pub down: bool,
+    pub room: usize,
+    pub used: usize,
+}
+
+// The records in use, in a buffer that holds their room.
+#[derive(Clone, Copy)]
+struct Records<'a> {
+    slots: Slots,
+    bytes: &'a [u8],
+    ghost in_room: { slots.used ≤ slots.room },
+    ghost in_bytes: { slots.room * 16 ≤ length bytes.now },
+}
+
+impl<'a> Records<'a> {
+    // The record k.
+    fn entry(self, k: usize) -> Entry
+        requires { k < self.slots.used }
+        ensures { let r = self.entry in (result ≡ nth r.slots.layout r.slots.down r.slots.room r.bytes.now k) × (result.start < 2 ^ 48) × (result.size < 16) }
+    {
+        let at = self.slots;
+        slot_entry(at.layout, at.room, self.bytes, slot(at.down, at.room, k))
+    }
+
+    // The record that covers a position.
+    fn look(self, pos: u64) -> Option<Found>
+        ensures { let r = self.entry in result ≡ look_in (entries r.slots.layout r.slots.down r.slots.room r.bytes.now r.slots.used) pos }
+    {
+        let asked = Asked {
+            records: self,
+            pos,
+            most: most_of(pos),
+        };
+        let n = asked.count();
+        if n == 0 {
+            return None;
+        }
+        let number = n - 1;
+        let entry = self.entry(number);
+        if before_end(entry, pos) {
+            Some(Found { number, entry })
+        } else {
+            None
+        }
+    }
+
+    // Whether a record begins before the end of the last one.
+    fn early(self, start: u64) -> bool
+        ensures { let r = self.entry in result ≡ early_in (entries r.slots.layout r.slots.down r.slots.room r.bytes.now r.slots.used) start }
+    {
+        if self.slots.used == 0 {
+            return false;
+        }
+        before_end(self.entry(self.slots.used - 1), start)
+    }
+}
+
+// Records that are asked for a position, and the greatest eight bytes of one that starts at or before it.
+#[derive(Clone, Copy)]
+struct Asked<'a> {
+    records: Records<'a>,
     pos: u64,
     most: u64,
-    k: usize,
-) -> usize
-    requires { (k < used) × (used ≤ room) × (room * 16 ≤ length b.now) × (most ≡ most_of pos) }
-    ensures { (result ≡ one (starts_by (entries l down room b.now used) pos k)) × (result ≤ 1) }
-{
-    let at = start_place(l, slot(down, room, k));
-    if eight_at(b, at) <= most { 1 } else { 0 }
+    ghost greatest: { most ≡ most_of pos },
 }
 
-// How many of three records, so many apart, do.
-fn of_three(
-    l: Layout,
-    down: bool,
-    room: usize,
-    b: &[u8],
-    used: usize,
-    pos: u64,
-    most: u64,
-    at: usize,
-    apart: usize,
-) -> usize
-    requires { (at + 3 * apart < used) × (used ≤ room) × (room * 16 ≤ length b.now) × (most ≡ most_of pos) }
-    ensures { (result ≡ of_three (starts_by (entries l down room b.now used) pos) at apart) × (result ≤ 3) }
-{
-    let x = starts_by(l, down, room, b, used, pos, most, at + apart);
-    let y = starts_by(l, down, room, b, used, pos, most, at + 2 * apart);
-    let z = starts_by(l, down, room, b, used, pos, most, at + 3 * apart);
-    x + y + z
-}
-
-// How many of the n records from a place on do.
-fn of_few(
-    l: Layout,
-    down: bool,
-    room: usize,
-    b: &[u8],
-    used: usize,
-    pos: u64,
-    most: u64,
-    at: usize,
-    n: usize,
-) -> usize
-    requires { (at + n ≤ used) × (used ≤ room) × (room * 16 ≤ length b.now) × (most ≡ most_of pos) }
-    ensures { (result ≡ of_few (starts_by (entries l down room b.now used) pos) at n) × (result ≤ n) }
-{
-    let mut k = 0;
-    let mut i = 0;
-    while i < n {
-        k += starts_by(l, down, room, b, used, pos, most, at + i);
-        i += 1;
+impl<'a> Asked<'a> {
+    // 1 where the record k starts at or before the position, else 0: no branch goes by the record's bytes.
+    fn starts_by(self, k: usize) -> usize
+        requires { k < self.records.slots.used }
+        ensures { let r = self.entry.records in (result ≡ one (starts_by (entries r.slots.layout r.slots.down r.slots.room r.bytes.now r.slots.used) self.entry.pos k)) × (result ≤ 1) }
+    {
+        let slots = self.records.slots;
+        let at = start_place(slots.layout, slot(slots.down, slots.room, k));
+        usize::from(starts_at_or_before(self.records.bytes, at, self.pos, self.most))
     }
-    k
+
+    // How many of three records, so many apart, do.
+    fn of_three(self, at: usize, apart: usize) -> usize
+        requires { at + 3 * apart < self.records.slots.used }
+        ensures { let r = self.entry.records in (result ≡ of_three (starts_by (entries r.slots.layout r.slots.down r.slots.room r.bytes.now r.slots.used) self.entry.pos) at apart) × (result ≤ 3) }
+    {
+        self.starts_by(at + apart) + self.starts_by(at + 2 * apart) + self.starts_by(at + 3 * apart)
+    }
+
+    // How many of the n records from a place on do.
+    fn of_few(self, at: usize, n: usize) -> usize
+        requires { at + n ≤ self.records.slots.used }
+        ensures { let r = self.entry.records in (result ≡ of_few (starts_by (entries r.slots.layout r.slots.down r.slots.room r.bytes.now r.slots.used) self.entry.pos) at n) × (result ≤ n) }
+    {
+        let mut k = 0;
+        for i in 0..n {
+            k += self.starts_by(at + i);
+        }
+        k
+    }
+
+    // How many of the records do: by quarters, which reads starts only.
+    fn count(self) -> usize
+        ensures { let r = self.entry.records in (result ≡ count_in (entries r.slots.layout r.slots.down r.slots.room r.bytes.now r.slots.used) self.entry.pos) × (result ≤ r.slots.used) }
+    {
+        let mut at = 0;
+        let mut n = self.records.slots.used;
+        while 4 <= n {
+            let apart = n / 4;
+            at += self.of_three(at, apart) * apart;
+            n -= 3 * apart;
+        }
+        at + self.of_few(at, n)
+    }
 }
 
-// How many of the records start at or before a position: by quarters, which reads starts only.
-fn count(l: Layout, down: bool, room: usize, b: &[u8], used: usize, pos: u64) -> usize
-    requires { (used ≤ room) × (room * 16 ≤ length b.now) }
-    ensures { (result ≡ count_in (entries l down room b.now used) pos) × (result ≤ used) }
+// The slots of an index of so many records: its room is all that the buffer holds.
+fn upwards(l: Layout, b: &[u8], used: usize) -> Slots
+    ensures { result ≡ record { layout = l; down = false; room = length b.now / 16; used = used } }
 {
-    let most = most_of(pos);
-    let mut at = 0;
-    let mut n = used;
-    while 4 <= n {
-        let apart = n / 4;
-        let k = of_three(l, down, room, b, used, pos, most, at, apart);
-        let on = k * apart;
-        at += on;
-        n -= 3 * apart;
-    }
-    let k = of_few(l, down, room, b, used, pos, most, at, n);
-    at + k
-}
-
-// The record that covers a position, in a room whose records stand from the first slot up or from the last one down.
-fn look(l: Layout, down: bool, room: usize, b: &[u8], used: usize, pos: u64) -> Option<Found>
-    requires { (used ≤ room) × (room * 16 ≤ length b.now) }
-    ensures { result ≡ look_in (entries l down room b.now used) pos }
-{
-    let n = count(l, down, room, b, used, pos);
-    if n == 0 {
-        return None;
-    }
-    let number = n - 1;
-    let e = slot_entry(l, room, b, slot(down, room, number));
-    if before_end(e, pos) {
-        Some(Found { number, entry: e })
-    } else {
-        None
+    Slots {
+        layout: l,
+        down: false,
+        room: b.len() / 16,
+        used,
     }
 }
 
@@ -265,37 +299,13 @@ fn look(l: Layout, down: bool, room: usize, b: &[u8], used: usize, pos: u64) -> 
 pub fn find(l: Layout, b: &[u8], used: usize, pos: u64) -> Result<Option<Found>, IndexError>
     ensures { result ≡ find_of l b.now used pos }
 {
-    let room = b.len() / 16;
-    if room < used {
-        return Err(IndexError::Short);
-    }
-    Ok(look(l, false, room, b, used, pos))
-}
-
-// Whether a record begins before the end of the last one.
-fn early(l: Layout, down: bool, room: usize, b: &[u8], used: usize, start: u64) -> bool
-    requires { (used ≤ room) × (room * 16 ≤ length b.now) }
-    ensures { result ≡ early_in (entries l down room b.now used) start }
-{
-    if used == 0 {
-        return false;
-    }
-    let e = slot_entry(l, room, b, slot(down, room, used - 1));
-    before_end(e, start)
+    find_from(upwards(l, b, used), b, pos)
 }
 
 // Adds a record behind those in use, where room is free.
-fn insert(
-    l: Layout,
-    down: bool,
-    free: bool,
-    room: usize,
-    b: &mut [u8],
-    used: usize,
-    e: Entry,
-) -> Result<usize, IndexError>
-    requires { (used ≤ room) × (room * 16 ≤ length b.old) × (free ≡ true → used < room) }
-    ensures { (result ≡ add_to free (entries l down room b.old used) e) × (b.new ≡ written result l down room b.old used e) }
+fn insert(slots: Slots, free: bool, b: &mut [u8], e: Entry) -> Result<usize, IndexError>
+    requires { (slots.used ≤ slots.room) × (slots.room * 16 ≤ length b.old) × (free ≡ true → slots.used < slots.room) }
+    ensures { (result ≡ add_to free (entries slots.layout slots.down slots.room b.old slots.used) e) × (b.new ≡ written result slots.layout slots.down slots.room b.old slots.used e) }
 {
     if !good(e) {
         return Err(IndexError::Field);
@@ -303,66 +313,47 @@ fn insert(
     if 0xffff_ffff_ffff < e.start {
         return Err(IndexError::Start);
     }
-    if early(l, down, room, b, used, e.start) {
+    let records = Records { slots, bytes: b };
+    if records.early(e.start) {
         return Err(IndexError::Order);
     }
     if !free {
         return Err(IndexError::Full);
     }
-    let s = slot(down, room, used);
-    put_slot(l, room, b, s, e);
-    let next = used + 1;
-    Ok(next)
+    let s = slot(slots.down, slots.room, slots.used);
+    put_slot(slots.layout, slots.room, b, s, e);
+    Ok(slots.used + 1)
 }
 
 // Adds a record behind the last of so many in a lent buffer.
 pub fn add(l: Layout, b: &mut [u8], used: usize, e: Entry) -> Result<usize, IndexError>
     ensures { (result ≡ add_of l b.old used e) × (b.new ≡ after_add l b.old used e) }
 {
-    let room = b.len() / 16;
-    if room < used {
-        return Err(IndexError::Short);
-    }
-    insert(l, false, used < room, room, b, used, e)
+    add_from(upwards(l, b, used), true, b, e)
 }
 
-// The first record that covers a position, of so many that stand from the first slot of a room up, or from its last one down.
-pub fn find_from(
-    l: Layout,
-    down: bool,
-    room: usize,
-    b: &[u8],
-    used: usize,
-    pos: u64,
-) -> Result<Option<Found>, IndexError>
-    ensures { result ≡ find_from l down room b.now used pos }
+// The first record that covers a position, of those in the slots of a room.
+pub fn find_from(slots: Slots, b: &[u8], pos: u64) -> Result<Option<Found>, IndexError>
+    ensures { result ≡ find_from slots.layout slots.down slots.room b.now slots.used pos }
 {
-    if b.len() / 16 < room {
+    if b.len() / 16 < slots.room {
         return Err(IndexError::Short);
     }
-    if room < used {
+    if slots.room < slots.used {
         return Err(IndexError::Short);
     }
-    Ok(look(l, down, room, b, used, pos))
+    Ok(Records { slots, bytes: b }.look(pos))
 }
 
 // Adds a record behind the last of these, where one is free and may be given out.
-pub fn add_from(
-    l: Layout,
-    down: bool,
-    free: bool,
-    room: usize,
-    b: &mut [u8],
-    used: usize,
-    e: Entry,
-) -> Result<usize, IndexError>
-    ensures { (result ≡ add_from l down free room b.old used e) × (b.new ≡ after_from l down free room b.old used e) }
+pub fn add_from(slots: Slots, free: bool, b: &mut [u8], e: Entry) -> Result<usize, IndexError>
+    ensures { (result ≡ add_from slots.layout slots.down free slots.room b.old slots.used e) × (b.new ≡ after_from slots.layout slots.down free slots.room b.old slots.used e) }
 {
-    if b.len() / 16 < room {
+    if b.len() / 16 < slots.room {
         return Err(IndexError::Short);
     }
-    if room < used {
+    if slots.room < slots.used {
         return Err(IndexError::Short);
     }
-    insert(l, down, free & (used < room), room, b, used, e)
+    insert(slots, free & (slots.used < slots.room), b, e)
 }

@@ -6,7 +6,6 @@ use Rattle.parts.specs.Number.{number_at}
 use Rattle.labels.specs.Label.{same_label, label_at, partition_kind, random_index}
 use Rattle.lengths.specs.declared.Field.{Field}
 use Rattle.lengths.specs.declared.NoLength.{NoLength}
-use Rattle.lengths.specs.declared.NoLength.TheVariants.{Cut, Invalid}
 use Rattle.lengths.specs.Length.{length_at}
 use Rattle.klv.specs.Item.{klv, past}
 use Rattle.random_index.specs.declared.Pairs.{Pairs}
@@ -27,8 +26,7 @@ by_length s p (Ok f) =
     cond (eqb (f.value % 12) 4 && eqb (past (klv 16 p f)) (length s))
     (pairs (record { at = (klv 16 p f).value; left = f.value / 12 }))
     (refused 9)
-by_length s p (Err Cut) = refused 9
-by_length s p (Err Invalid) = refused 9
+by_length s p (Err e) = refused 9
 
 unfoldable pub pairs_behind : List ℕ → ℕ → Said
 pairs_behind s p = by_length s p (length_at s (p + 16))

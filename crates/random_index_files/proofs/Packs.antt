@@ -12,13 +12,12 @@ use Rattle.steps.specs.Told.{found}
 use Rattle.labels.specs.Label.{same_label, label_at, random_index}
 use Rattle.lengths.specs.declared.Field.{Field}
 use Rattle.lengths.specs.declared.NoLength.{NoLength}
-use Rattle.lengths.specs.declared.NoLength.TheVariants.{Cut, Invalid}
 use Rattle.lengths.specs.Length.{length_at}
 use Rattle.lengths.proofs.Laws.{taken}
 use Rattle.klv.specs.Item.{klv, past}
 use Rattle.random_index.specs.declared.Pairs.{Pairs}
 use Rattle.random_index.specs.Index.{pairs, pack_size, index_of, pairs_behind, pair_at, pair_step}
-use Rattle.random_index.proofs.Laws.{no_length, cut-length, not-pairs, not_to_end, to_end, file_small, size_small, size_above, no-label, behind-label, step-over, step-pair}
+use Rattle.random_index.proofs.Laws.{no_length, not-pairs, not_to_end, to_end, file_small, size_small, size_above, no-label, behind-label, step-over, step-pair}
 use Rattle.random_index_files.specs.Packs.{PackAt, place, RandomIndexPacks}
 
 module _ (s : List ℕ) (c : Pairs) where
@@ -38,8 +37,7 @@ module _ (s : List ℕ) (c : Pairs) where
           record { key = k; field = f; long = l; start = a; count = omega arith; ends = omega arith; size = z })
           (λ n. let y = not_to_end s p f l m n in absurd (let z : ◌≡◌ {A = ℕ} 0 1 = cc in omega arith)))
           (λ m. let y = not-pairs s p f l m in absurd (let z : ◌≡◌ {A = ℕ} 0 1 = cc in omega arith))
-      go (Err Cut) l = let y = cut-length s p l in absurd (let z : ◌≡◌ {A = ℕ} 0 1 = cc in omega arith)
-      go (Err Invalid) l = let y = no_length s p l in absurd (let z : ◌≡◌ {A = ℕ} 0 1 = cc in omega arith)
+      go (Err e) l = let y = no_length s p e l in absurd (let z : ◌≡◌ {A = ℕ} 0 1 = cc in omega arith)
 
   only : index_of s ≡ pairs c → (p : ℕ) × PackAt s p c
   only x =

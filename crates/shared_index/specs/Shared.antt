@@ -2,6 +2,7 @@
 use Rattle.std.specs.Prelude.{ℕ, List, Bool, true, cond, length, Option, Result, Ok, Err}
 use Rattle.index.specs.declared.Entry.{Entry}
 use Rattle.index.specs.declared.Layout.{Layout}
+use Rattle.index.specs.declared.Slots.{Slots}
 use Rattle.index.specs.declared.Found.{Found}
 use Rattle.index.specs.declared.IndexError.{IndexError}
 use Rattle.index.specs.declared.IndexError.TheVariants.{Short}
@@ -12,6 +13,10 @@ use Rattle.shared_index.specs.declared.Room.{Room}
 use Rattle.shared_index.specs.declared.SharedError.{SharedError}
 use Rattle.shared_index.specs.declared.SharedError.TheVariants.{Index, NoFile}
 use Rattle.shared_index.specs.Rooms.{file_of, changed, free_of, is_second, is_open, is_sound}
+
+-- the slots that a file uses
+abbrev pub slots_of : Layout → Bool → Room → Slots
+slots_of l second r = record { layout = l; down = second; room = r.whole; used = (file_of second r).used }
 
 -- a file's list
 abbrev pub entries_of : Layout → Bool → Room → List ℕ → List Entry

@@ -4,10 +4,10 @@
 
 ghost use Rattle.std.specs.Prelude.{◌≡◌, ◌/◌, length};
 ghost use Rattle.shared_index.specs.Rooms.{file_of, with_file, changed, free_of, is_second, is_open, is_sound, set_up_of, opened_of, closed_of};
-ghost use Rattle.shared_index.specs.Shared.{find_of, add_of, after_add};
+ghost use Rattle.shared_index.specs.Shared.{slots_of, find_of, add_of, after_add};
 ghost use Rattle.shared_index.specs.declared.SharedError.TheVariants.{Index};
 
-use index::{Entry, Found, IndexError, Layout};
+use index::{Entry, Found, IndexError, Layout, Slots};
 
 // A file in the room: how many entries are reserved for it, how many records it has, and whether it is open.
 #[derive(Clone, Copy, Debug, PartialEq, Eq)]
@@ -82,6 +82,19 @@ fn is_free(second: bool, r: Room) -> bool
         return false;
     }
     held < r.whole - own.used
+}
+
+// The slots that a file uses: file 0 from the first one up, file 1 from the last one down.
+fn slots_of(l: Layout, second: bool, r: Room) -> Slots
+    ensures { result ≡ slots_of l second r }
+{
+    let f = file_of(second, r);
+    Slots {
+        layout: l,
+        down: second,
+        room: r.whole,
+        used: f.used,
+    }
 }
 
 // Whether there is such a file, and it is open.
@@ -168,9 +181,7 @@ pub fn find(l: Layout, b: &[u8], r: Room, file: u64, pos: u64) -> Result<Option<
         return Err(SharedError::Index(IndexError::Short));
     }
     if is_open(r, file) {
-        let second = file == 1;
-        let f = file_of(second, r);
-        Ok(index::find_from(l, second, r.whole, b, f.used, pos)?)
+        Ok(index::find_from(slots_of(l, file == 1, r), b, pos)?)
     } else {
         Err(SharedError::NoFile)
     }
@@ -187,8 +198,6 @@ pub fn add(l: Layout, b: &mut [u8], r: Room, file: u64, e: Entry) -> Result<Room
         return Err(SharedError::NoFile);
     }
     let second = file == 1;
-    let f = file_of(second, r);
-    let free = is_free(second, r);
-    let used = index::add_from(l, second, free, r.whole, b, f.used, e)?;
+    let used = index::add_from(slots_of(l, second, r), is_free(second, r), b, e)?;
     Ok(change(second, r, true, used))
 }

@@ -5,7 +5,7 @@ use Rattle.index.specs.declared.Layout.{Layout}
 use Rattle.index.specs.Lists.{good_fields, early_in, look_in}
 use Rattle.index_lists.specs.Apart.{Answers}
 use Rattle.shared_index.specs.declared.Room.{Room}
-use Rattle.index.specs.declared.IndexError.TheVariants.{Full}
+use Rattle.index.specs.declared.IndexError.TheVariants as index
 use Rattle.shared_index.specs.declared.SharedError.TheVariants as error
 use Rattle.shared_index.specs.Rooms.{file_of, held_by, free_of, is_second, is_open, is_sound, set_up_of, changed, closed_of}
 use Rattle.shared_index.specs.Shared.{entries_of, find_of, add_of, after_add}
@@ -18,13 +18,13 @@ pub record Shares : Type 0 where
   pub not-set-up : (whole a c : ℕ) → whole < a + c → set_up_of whole a c ≡ Err error.Shares
   -- a file below its share is never refused for room
   pub below : (l : Layout) (r : Room) (b : List ℕ) → Made l r b → (file : ℕ) → is_open r file ≡ true → (e : Entry)
-      → (file_of (is_second file) r).used < (file_of (is_second file) r).share → add_of l b r file e ≡ Err (error.Index Full) → ⊥
+      → (file_of (is_second file) r).used < (file_of (is_second file) r).share → add_of l b r file e ≡ Err (error.Index index.Full) → ⊥
   -- one at or above it exactly when no entry is free beyond what the other has or its share reserves
-  pub full-only : (l : Layout) (r : Room) (b : List ℕ) → Made l r b → (file : ℕ) → is_open r file ≡ true → (e : Entry) → add_of l b r file e ≡ Err (error.Index Full)
+  pub full-only : (l : Layout) (r : Room) (b : List ℕ) → Made l r b → (file : ℕ) → is_open r file ≡ true → (e : Entry) → add_of l b r file e ≡ Err (error.Index index.Full)
       → r.whole ≤ (file_of (is_second file) r).used + held_by (not (is_second file)) r
   pub full_when : (l : Layout) (r : Room) (b : List ℕ) → Made l r b → (file : ℕ) → is_open r file ≡ true → (e : Entry) → good_fields e ≡ true → e.start < 2 ^ 48
       → early_in (entries_of l (is_second file) r b) e.start ≡ false → r.whole ≤ (file_of (is_second file) r).used + held_by (not (is_second file)) r
-      → add_of l b r file e ≡ Err (error.Index Full)
+      → add_of l b r file e ≡ Err (error.Index index.Full)
   -- a file's own list grows by the record, the other's stays; a refusal leaves the bytes
   pub own : (l : Layout) (b : List ℕ) (r : Room) (file : ℕ) (e : Entry) (n : Room) → e.len < 2 ^ 64 → add_of l b r file e ≡ Ok n
       → entries_of l (is_second file) n (after_add l b r file e) ≡ entries_of l (is_second file) r b ++ (e ∷ [])

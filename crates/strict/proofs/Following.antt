@@ -8,10 +8,10 @@ use lib.ListN.{length}
 use Rattle.steps.specs.Told.{Told, found, refused}
 use Rattle.steps.specs.Listed.{onward, end_from}
 use Rattle.steps.proofs.Laws.{ended}
-use Rattle.strict.specs.declared.Gate.{Gate}
-use Rattle.strict.specs.declared.Gate.TheVariants.{Accepted, Refused, Short, NoKey, NoLength, Indefinite, Past}
+use Rattle.strict.specs.declared.GateError.{GateError}
+use Rattle.strict.specs.declared.GateError.TheVariants.{Refused, Short, NoKey, NoLength, Indefinite, Past}
 use Rattle.strict.specs.Strict.{strict_step, last_from, strict_of}
-use Rattle.strict.specs.Told.{told}
+use Rattle.strict.specs.Told.{error_told}
 use Rattle.strict.proofs.Laws.{Case, c_end, c_wrong, c_next, case, moves}
 
 module _ (s : List ℕ) (e : ℕ) where
@@ -36,12 +36,11 @@ module _ (s : List ℕ) (e : ℕ) where
   unfolding strict_of
   gate_within h = simp (le-ltb _ _ h)
 
--- no answer of the gate is a record
-pub never_record : (e : ℕ) (g : Gate) (a q : ℕ) → told e g ≡ found a q → ⊥
-never_record e Accepted a q x = let z : ◌≡◌ {A = ℕ} 0 1 = cc in omega arith
-never_record e Refused a q x = let z : ◌≡◌ {A = ℕ} 0 1 = cc in omega arith
-never_record e (Short p) a q x = let z : ◌≡◌ {A = ℕ} 0 1 = cc in omega arith
-never_record e (NoKey p) a q x = let z : ◌≡◌ {A = ℕ} 0 1 = cc in omega arith
-never_record e (NoLength p) a q x = let z : ◌≡◌ {A = ℕ} 0 1 = cc in omega arith
-never_record e (Indefinite p) a q x = let z : ◌≡◌ {A = ℕ} 0 1 = cc in omega arith
-never_record e (Past p) a q x = let z : ◌≡◌ {A = ℕ} 0 1 = cc in omega arith
+-- no refusal of the gate is a record
+pub never_record : (g : GateError) (a q : ℕ) → error_told g ≡ found a q → ⊥
+never_record Refused a q x = let z : ◌≡◌ {A = ℕ} 0 1 = cc in omega arith
+never_record (Short p) a q x = let z : ◌≡◌ {A = ℕ} 0 1 = cc in omega arith
+never_record (NoKey p) a q x = let z : ◌≡◌ {A = ℕ} 0 1 = cc in omega arith
+never_record (NoLength p) a q x = let z : ◌≡◌ {A = ℕ} 0 1 = cc in omega arith
+never_record (Indefinite p) a q x = let z : ◌≡◌ {A = ℕ} 0 1 = cc in omega arith
+never_record (Past p) a q x = let z : ◌≡◌ {A = ℕ} 0 1 = cc in omega arith

@@ -14,7 +14,6 @@ use Rattle.steps.proofs.Laws.{Moves}
 use Rattle.labels.specs.Label.{key_at}
 use Rattle.lengths.specs.declared.Field.{Field}
 use Rattle.lengths.specs.declared.NoLength.{NoLength}
-use Rattle.lengths.specs.declared.NoLength.TheVariants.{Cut, Invalid}
 use Rattle.lengths.specs.Length.{length_at}
 use Rattle.klv.specs.Item.{klv, past}
 use Rattle.strict.specs.Strict.{whole_before, strict_step}
@@ -50,13 +49,9 @@ module _ (s : List ℕ) (e p : ℕ) where
         unfolding strict_step
         at_length l x = simp (ne_eqb _ _ below, le-ltb _ _ h, k, lt-leb _ _ low, ne_eqb _ _ plain, x)
 
-        pub past-cut : length_at s (p + 16) ≡ Err Cut → strict_step s e p ≡ refused 14 p
+        pub past-none : (x : NoLength) → length_at s (p + 16) ≡ Err x → strict_step s e p ≡ refused 14 p
         unfolding whole_before
-        past-cut l = at_length (Err Cut) l
-
-        pub past-none : length_at s (p + 16) ≡ Err Invalid → strict_step s e p ≡ refused 14 p
-        unfolding whole_before
-        past-none l = at_length (Err Invalid) l
+        past-none x l = at_length (Err x) l
 
         module _ (f : Field) (l : length_at s (p + 16) ≡ Ok f) where
           pub past_end : e < past (klv 16 p f) → strict_step s e p ≡ refused 14 p
@@ -86,8 +81,7 @@ case s e p =
         by_cases (dec_lt e (past (klv 16 p f)))
         (λ m. rw (past_end s e p h k low n f l m) (c_wrong 4))
         (λ m. rw (next s e p h k low n f l (omega arith)) (c_next h k n f l (omega arith)))
-    at_length h k low n (Err Cut) l = rw (past-cut s e p h k low n l) (c_wrong 4)
-    at_length h k low n (Err Invalid) l = rw (past-none s e p h k low n l) (c_wrong 4)
+    at_length h k low n (Err x) l = rw (past-none s e p h k low n x l) (c_wrong 4)
 
     by_key : 17 ≤ e - p → (b : Bool) → key_at s p ≡ b → Case s e p (strict_step s e p)
     by_key h false k = rw (no_key s e p h k) (c_wrong 1)

@@ -5,15 +5,13 @@ use Rattle.steps.specs.Listed.{end_from}
 use Rattle.labels.specs.Label.{key_at}
 use Rattle.lengths.specs.declared.Field.{Field}
 use Rattle.lengths.specs.declared.NoLength.{NoLength}
-use Rattle.lengths.specs.declared.NoLength.TheVariants.{Cut, Invalid}
 use Rattle.lengths.specs.Length.{length_at}
 use Rattle.klv.specs.Item.{klv, past}
 
 -- a record at p, and the place behind it; 14: length or value not wholly before the end
 unfoldable pub whole_before : ℕ → ℕ → Result Field NoLength → Told ℕ
 whole_before e p (Ok f) = cond (leb (past (klv 16 p f)) e) (found p (past (klv 16 p f))) (refused 14 p)
-whole_before e p (Err Cut) = refused 14 p
-whole_before e p (Err Invalid) = refused 14 p
+whole_before e p (Err x) = refused 14 p
 
 -- A step at p of a file s with the end e, where it is over. 10: fewer than 17 bytes left; 11: no key start; 12: length of 89h
 -- or above; 13: length 80h; 14

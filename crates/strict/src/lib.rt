@@ -6,13 +6,9 @@ ghost use Rattle.std.specs.Prelude.{◌≡◌, ◌+◌, ◌≤◌, length, leb};
 ghost use Rattle.strict.specs.Strict.{strict_step, last_from, strict_of};
 ghost use Rattle.strict.specs.Told.{told, seen_told};
 
-use lengths::Length;
-use parts::saturating_sub;
-
-// What the gate says of a file. From 10 on a refusal has its place.
-#[derive(Clone, Copy)]
-pub enum Gate {
-    Accepted,
+// Why the gate refuses a file. From 10 on a refusal has its place.
+#[derive(Clone, Copy, Debug, PartialEq, Eq)]
+pub enum GateError {
     // 1: the end is larger than the buffer.
     Refused,
     // 10: fewer than 17 bytes are left.
@@ -27,15 +23,6 @@ pub enum Gate {
     Past(usize),
 }
 
-// What stands at one place.
-#[derive(Clone, Copy)]
-pub enum Seen {
-    // A record, and the place behind it.
-    Next(usize),
-    // The end, or what breaks there.
-    Stop(Gate),
-}
-
 // Whether so many bytes from a place on lie wholly before the end; no bytes past it do not.
 fn ends_within(v: usize, n: u64, end: usize) -> bool
     ensures { result ≡ leb (v + n) end }
@@ -46,62 +33,57 @@ fn ends_within(v: usize, n: u64, end: usize) -> bool
     n <= (end - v) as u64
 }
 
-// A step at a place.
-fn look(s: &[u8], end: usize, p: usize) -> Seen
+// A step at a place: the place behind the record there, or None at the end.
+fn look(s: &[u8], end: usize, p: usize) -> Result<Option<usize>, GateError>
     requires { end ≤ length s.now }
     ensures { seen_told end p result ≡ strict_step s.now end p }
 {
     if p == end {
-        return Seen::Stop(Gate::Accepted);
+        return Ok(None);
     }
-    if saturating_sub(end, p) < 17 {
-        return Seen::Stop(Gate::Short(p));
+    if end.saturating_sub(p) < 17 {
+        return Err(GateError::Short(p));
     }
     if !search::key_at(s, p) {
-        return Seen::Stop(Gate::NoKey(p));
+        return Err(GateError::NoKey(p));
     }
     let at = p + 16;
     let first = s[at];
     if 0x89 <= first {
-        return Seen::Stop(Gate::NoLength(p));
+        return Err(GateError::NoLength(p));
     }
     if first == 0x80 {
-        return Seen::Stop(Gate::Indefinite(p));
+        return Err(GateError::Indefinite(p));
     }
-    let l = lengths::read(s, at);
-    let Length::Is(f) = l else {
-        return Seen::Stop(Gate::Past(p));
+    let Ok(f) = lengths::read(s, at) else {
+        return Err(GateError::Past(p));
     };
     let v = at + f.size;
     let n = f.value;
     if !ends_within(v, n, end) {
-        return Seen::Stop(Gate::Past(p));
+        return Err(GateError::Past(p));
     }
-    let next = v + n as usize;
-    Seen::Next(next)
+    Ok(Some(v + n as usize))
 }
 
 // The steps from 0 on, record by record.
-fn follow(s: &[u8], end: usize) -> Gate
+fn follow(s: &[u8], end: usize) -> Result<(), GateError>
     requires { end ≤ length s.now }
     ensures { told end result ≡ last_from s.now end 0 }
 {
     let mut p = 0;
-    loop {
-        let l = look(s, end, p);
-        match l {
-            Seen::Stop(g) => return g,
-            Seen::Next(q) => p = q,
-        }
+    while let Some(q) = look(s, end, p)? {
+        p = q;
     }
+    Ok(())
 }
 
 // Whether records follow each other from 0 to the end of a file, or where and how this breaks.
-pub fn check(s: &[u8], end: usize) -> Gate
+pub fn check(s: &[u8], end: usize) -> Result<(), GateError>
     ensures { told end result ≡ strict_of s.now end }
 {
     if s.len() < end {
-        return Gate::Refused;
+        return Err(GateError::Refused);
     }
     follow(s, end)
 }

@@ -1,5 +1,5 @@
 -- `primer::find` meets its contract. The loop's invariant: no entry from i on has the tag, so those before decide.
-use Prim.Native.Nat.{◌-◌, ◌≤◌}
+use Prim.Native.Nat.{◌≤◌}
 use mathlib.Core.Path.{◌≡◌}
 use Rattle.primer.specs.Primer.{entries_in, last_of, entry_of}
 use Rattle.primer.proofs.find.Given as goal

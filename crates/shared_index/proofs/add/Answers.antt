@@ -25,7 +25,7 @@ returns-in_err-used c =
     let s = sound_tells a.r (length a.b.now) h in
     let second : Bool = is_second a.file in
     let f = add_from_free a.l second a.r.whole a.b.now (file_of second a.r).used (free_of second a.r) a.e s.whole (own-used second a.r (length a.b.now) s) (λ t. (free_slot second a.r t).0) in
-    let i = rw (c.file_of-f.ensures, c.is_free-free.ensures, ← f) at c.add_from.ensures in
+    let i = rw (c.slots_of.ensures, c.is_free.ensures, ← f) at c.add_from.ensures in
     let p = err_from_is_err_and c.from_residual.result c.from_residual.ensures.1 in
     let w = sym i.0 ∙ c.in_err-used.was in
     rw (p.1, p.2) (rw w at d.0, i.1 ∙ d.1)
@@ -40,6 +40,6 @@ returns c =
     let s = sound_tells a.r (length a.b.now) h in
     let second : Bool = is_second a.file in
     let f = add_from_free a.l second a.r.whole a.b.now (file_of second a.r).used (free_of second a.r) a.e s.whole (own-used second a.r (length a.b.now) s) (λ t. (free_slot second a.r t).0) in
-    let i = rw (c.file_of-f.ensures, c.is_free-free.ensures, ← f) at c.add_from.ensures in
+    let i = rw (c.slots_of.ensures, c.is_free.ensures, ← f) at c.add_from.ensures in
     let w = sym i.0 ∙ c.in_ok-used.was in
     (rw c.change.ensures (rw w at d.0), i.1 ∙ d.1)

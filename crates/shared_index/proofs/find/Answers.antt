@@ -23,7 +23,7 @@ returns-in_err-find_from c =
     let s = sound_tells a.r (length a.b.now) (sym c.is_sound.ensures ∙ c.if-not-is_sound.false) in
     let second : Bool = is_second a.file in
     let f = from_in a.l second a.r.whole a.b.now (file_of second a.r).used a.pos s.whole (own-used second a.r (length a.b.now) s) in
-    absurd (let x = f ∙ sym (rw c.file_of-f.ensures at c.find_from.ensures) ∙ c.in_err-find_from.was in let z : ◌≡◌ {A = ℕ} 0 1 = cc in omega arith)
+    absurd (let x = f ∙ sym (rw c.slots_of.ensures at c.find_from.ensures) ∙ c.in_err-find_from.was in let z : ◌≡◌ {A = ℕ} 0 1 = cc in omega arith)
 
 pub returns-in_ok-find_from : goal.returns-in_ok-find_from
 returns-in_ok-find_from c =
@@ -32,6 +32,6 @@ returns-in_ok-find_from c =
     let s = sound_tells a.r (length a.b.now) h in
     let second : Bool = is_second a.file in
     let f = from_in a.l second a.r.whole a.b.now (file_of second a.r).used a.pos s.whole (own-used second a.r (length a.b.now) s) in
-    let x = f ∙ sym (rw c.file_of-f.ensures at c.find_from.ensures) ∙ c.in_ok-find_from.was in
+    let x = f ∙ sym (rw c.slots_of.ensures at c.find_from.ensures) ∙ c.in_ok-find_from.was in
     let e : look_in (entries_of a.l second a.r a.b.now) a.pos ≡ c.in_ok-find_from.field-0 = cc in
     rw (← e) (find_in a.l a.b.now a.r a.file a.pos h (sym c.is_open.ensures ∙ c.if-is_open.true))

@@ -4,8 +4,8 @@ use mathlib.Core.Path.{◌≡◌}
 use Rattle.strict.specs.Strict.{last_from}
 use Rattle.strict.proofs.follow.Given as goal
 
-abbrev pub invariant-loop-g : goal.invariant-loop-g
-invariant-loop-g l = last_from l.s l.end l.p ≡ last_from l.s l.end 0
+abbrev pub invariant-loop-q : goal.invariant-loop-q
+invariant-loop-q l = last_from l.s l.end l.p ≡ last_from l.s l.end 0
 
-abbrev pub decreases-loop-g : goal.decreases-loop-g
-decreases-loop-g l = l.end - l.p
+abbrev pub decreases-loop-q : goal.decreases-loop-q
+decreases-loop-q l = l.end - l.p
