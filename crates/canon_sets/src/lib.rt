@@ -64,27 +64,18 @@ pub struct Package {
     pub end: usize,
 }
 
-// What a step finds.
-#[derive(Clone, Copy)]
-pub enum Metadata {
-    // A Private Camera Metadata, and the cursor past it.
-    Value(Klv, Package),
-    // None is left.
-    End,
-}
-
 impl Package {
-    // The next Private Camera Metadata of a package set, with the moved cursor, or the end.
-    pub fn step(self, s: &[u8]) -> Metadata
+    // The next Private Camera Metadata of a package set, and the cursor past it.
+    pub fn step(self, s: &[u8]) -> Option<(Klv, Package)>
         ensures { told self.from result ≡ first_of self.from (values_from s.now self.from self.end) }
     {
         let mut end = self.end;
-        let mut from = parts::lesser(self.from, end);
+        let mut from = self.from.min(end);
         loop {
             let t = turn_at(s, from, end);
             match t {
-                Turn::Value(k, next) => return Metadata::Value(k, Package { from: next, end }),
-                Turn::Over => return Metadata::End,
+                Turn::Value(k, next) => return Some((k, Package { from: next, end })),
+                Turn::Over => return None,
                 Turn::On(f, e) => {
                     from = f;
                     end = e;

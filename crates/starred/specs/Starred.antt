@@ -1,5 +1,5 @@
 -- The starred numbers of docs/RULES.md, "Numbers on both sides", together.
-use Rattle.std.specs.Prelude.{ℕ, ◌-◌, ◌^◌, ◌<◌, ◌≡◌, List, [], ◌∷◌, ◌++◌, Bool, true, false, length, replicate, Float}
+use Rattle.std.specs.Prelude.{ℕ, ◌-◌, ◌^◌, ◌<◌, ◌≡◌, List, [], ◌∷◌, ◌++◌, Bool, true, false, length, replicate, Float, Some}
 use Rattle.steps.specs.Told.{nothing}
 use Rattle.lengths.specs.declared.Length.{Length}
 use Rattle.lengths.specs.declared.Length.TheVariants.{Is, Cut, None}
@@ -69,7 +69,7 @@ Distances = ((lens : Bool) → OneMetre (mini.distance_of lens 1000)) × OneMetr
 
 -- apertures: (0, 65534) closed
 abbrev pub Apertures : Type 0
-Apertures = aperture 0 65534 ≡ Close
+Apertures = aperture 0 65534 ≡ Some Close
 
 abbrev pub Starred : Type 0
 Starred = Lengths × Finished × Arriving × Floats × Distances × Apertures

@@ -14,5 +14,5 @@ returns c =
     c.value_slot-5.ensures i ∷
     c.value_slot-6.ensures i ∷
     c.value_slot-7.ensures i ∷
-    c.nothing-none.ensures i ∷
+    c.nothing.ensures i ∷
     []

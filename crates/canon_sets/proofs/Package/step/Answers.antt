@@ -1,5 +1,4 @@
 -- `canon_sets::Package::step` meets its contract. The loop's invariant: the cursor has the values of the one that was given.
-use Prim.Native.Nat.{◌-◌}
 use mathlib.Core.Path.{◌≡◌, refl, sym, ◌∙◌}
 use native.Mathlib.Omega.{arith}
 use Rattle.canon_sets.specs.Package.{values_from}
@@ -9,10 +8,10 @@ use Rattle.canon_sets.proofs.Package.step.Goals.{At-loop-k}
 
 same : (c : goal.At-loop-k) → values_from c.args.s.now c.loop-k.from c.loop-k.end
     ≡ values_from c.args.s.now c.args.self.from c.args.self.end
-same c = c.loop-k.invariant.1 ∙ clamped _ _ _ _ c.lesser-from.ensures
+same c = c.loop-k.invariant.1 ∙ clamped _ _ _ _ c.min-from.ensures
 
 pub loop-k-init : goal.loop-k-init
-loop-k-init c = (omega (arith, c.lesser-from.ensures), refl)
+loop-k-init c = (omega (arith, c.min-from.ensures), refl)
 
 pub returns-in-Value : goal.returns-in-Value
 returns-in-Value c =
