@@ -5,7 +5,7 @@
 ghost use Rattle.std.specs.Prelude.{◌≡◌, ◌+◌, ◌≤◌, length};
 ghost use Rattle.canon_sequence.specs.Sequence.{position_after, identifier_after, fields_after, empty, sequence_of};
 
-use items::{Coding, Local, LocalNext};
+use items::{Coding, Local};
 use klv::Klv;
 use parts::{number_at, two_at};
 
@@ -64,14 +64,10 @@ pub fn read(s: &[u8]) -> Sequence
     ensures { result ≡ sequence_of s.now }
 {
     let mut q = empty();
-    let mut at = 0;
-    loop {
-        let c = Local { at };
-        let t = c.step(s, Coding::TWO_TWO);
-        let LocalNext::Item(k, next) = t else {
-            return q;
-        };
+    let mut items = Local { at: 0 };
+    while let Some((k, next)) = items.step(s, Coding::TWO_TWO) {
         q = fields_after(s, two_at(s, k.at), k, q);
-        at = next.at;
+        items = next;
     }
+    q
 }

@@ -6,7 +6,7 @@ ghost use Rattle.std.specs.Prelude.{◌≡◌, ◌≤◌, []};
 ghost use Rattle.canon_sets.specs.Package.{values_from, in_run};
 ghost use Rattle.canon_sets.specs.Told.{told, first_of, Turned};
 
-use items::{Coding, Local, LocalNext, Run, RunNext};
+use items::{Coding, Local, Run};
 use klv::Klv;
 
 // The packs of a camera.
@@ -29,9 +29,7 @@ fn next_item(s: &[u8], from: usize, end: usize) -> Turn
     requires { (from ≤ end) × (in_run s.now from end ≡ []) }
     ensures { Turned s.now from end result }
 {
-    let c = Local { at: end };
-    let t = c.step(s, Coding::ONE_TWO);
-    let LocalNext::Item(k, next) = t else {
+    let Some((k, next)) = (Local { at: end }).step(s, Coding::ONE_TWO) else {
         return Turn::Over;
     };
     if parts::one_at(s, k.at) == 0x88 {
@@ -46,9 +44,7 @@ fn turn_at(s: &[u8], from: usize, end: usize) -> Turn
     ensures { Turned s.now from end result }
 {
     let run = parts::part(s, 0, end);
-    let c = Run { at: from };
-    let t = c.step(run);
-    let RunNext::Item(k, next) = t else {
+    let Some((k, next)) = (Run { at: from }).step(run) else {
         return next_item(s, from, end);
     };
     if labels::same_label(k.label(run), &PRIVATE_CAMERA_METADATA) {
@@ -72,8 +68,7 @@ impl Package {
         let mut end = self.end;
         let mut from = self.from.min(end);
         loop {
-            let t = turn_at(s, from, end);
-            match t {
+            match turn_at(s, from, end) {
                 Turn::Value(k, next) => return Some((k, Package { from: next, end })),
                 Turn::Over => return None,
                 Turn::On(f, e) => {

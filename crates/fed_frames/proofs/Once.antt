@@ -3,7 +3,7 @@ use Rattle.std.proofs.Common.{◌≡◌, sym, refl, ap, ◌∙◌}
 use Rattle.steps.specs.Told.{ToldAt, found, nothing, refused}
 use Rattle.fed_states.specs.declared.Ending.{Ending}
 use Rattle.fed_states.specs.declared.Ending.TheVariants as ending
-use Rattle.fed_states.specs.Close.{Rest}
+use Rattle.fed_states.specs.declared.Rest.{Rest}
 use Rattle.fed_frames.specs.declared.FrameState.{FrameState}
 use Rattle.fed_frames.specs.declared.FrameAnswer.{FrameAnswer}
 use Rattle.fed_frames.specs.declared.FrameAnswer.TheVariants as answer

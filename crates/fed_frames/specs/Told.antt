@@ -5,7 +5,7 @@ use Rattle.steps.specs.Tells.{Said, tells, passes}
 use Rattle.steps.specs.Passed.{Passed}
 use Rattle.fed_states.specs.declared.Ending.{Ending}
 use Rattle.fed_states.specs.declared.Ending.TheVariants as ending
-use Rattle.fed_states.specs.Close.{Rest}
+use Rattle.fed_states.specs.declared.Rest.{Rest}
 use Rattle.fed_bytes.specs.Feed.{took}
 use Rattle.fed_pieces.specs.Pieces.{feed_on, Fits}
 use Rattle.frame_walks.specs.Frames.{Carried, Shown, framed, given}

@@ -12,7 +12,7 @@ header_places (is p) = 1 ∷ p.at ∷ p.len ∷ []
 header_places none = 0 ∷ 0 ∷ 0 ∷ []
 
 -- found, the place of a primer's label or of a block
-unfoldable pub start_places : Answer ℕ → List ℕ
+abbrev pub start_places : Answer ℕ → List ℕ
 start_places (is at) = 1 ∷ at ∷ []
 start_places none = 0 ∷ 0 ∷ []
 

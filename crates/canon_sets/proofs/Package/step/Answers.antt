@@ -15,16 +15,16 @@ loop-k-init c = (omega (arith, c.min-from.ensures), refl)
 
 pub returns-in-Value : goal.returns-in-Value
 returns-in-Value c =
-    let w = rw c.in-Value.is at c.turn_at-t.ensures in
+    let w = rw c.in-Value.is at c.turn_at.ensures in
     rw w.1 (first-is _ _ _ _ (sym (same (goal.at.returns-in-Value c).At-loop-k) ∙ w.0))
 
 pub returns-in-Over : goal.returns-in-Over
-returns-in-Over c = first-none _ _ (sym (same (goal.at.returns-in-Over c).At-loop-k) ∙ (rw c.in-Over.is at c.turn_at-t.ensures))
+returns-in-Over c = first-none _ _ (sym (same (goal.at.returns-in-Over c).At-loop-k) ∙ (rw c.in-Over.is at c.turn_at.ensures))
 
 pub loop-k-smaller : goal.loop-k-smaller
-loop-k-smaller c = (rw c.in-On.is at c.turn_at-t.ensures).1.up
+loop-k-smaller c = (rw c.in-On.is at c.turn_at.ensures).1.up
 
 pub loop-k-preserved : goal.loop-k-preserved
 loop-k-preserved c =
-    let w = rw c.in-On.is at c.turn_at-t.ensures in
+    let w = rw c.in-On.is at c.turn_at.ensures in
     (w.1.within, sym w.0 ∙ c.loop-k.invariant.1)
