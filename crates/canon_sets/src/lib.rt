@@ -54,7 +54,7 @@ fn turn_at(s: &[u8], from: usize, end: usize) -> Turn
 }
 
 // Where a package set is read: the place in an item's run, and where that ends and the next item starts. It begins with 0 and 0.
-#[derive(Clone, Copy)]
+#[derive(Clone, Copy, Debug, Default, PartialEq, Eq)]
 pub struct Package {
     pub from: usize,
     pub end: usize,
