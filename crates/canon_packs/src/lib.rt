@@ -24,6 +24,7 @@ pub struct Camera {
 }
 
 // The camera after a pack.
+#[tactic(auto, unfolding(crate::specs::Camera::camera_after))]
 fn camera_after(p: Pack, c: Camera) -> Camera
     ensures { result ≡ camera_after p.id (raws_of p) c }
 {
@@ -45,6 +46,7 @@ fn unknown() -> Camera
 }
 
 // The pack at a place.
+#[tactic(auto, unfolding(crate::specs::Camera::pack_at))]
 fn pack_at(s: &[u8], at: usize) -> Pack
     requires { at + 5 ≤ length s.now }
     ensures { result ≡ pack_at s.now at }

@@ -39,6 +39,7 @@ fn value_slot(v: Option<Value>) -> Slot
 }
 
 // The first eight.
+#[tactic(auto, unfolding(crate::specs::Places::camera_slots))]
 fn first_eight(c: Camera) -> [Slot; 8]
     ensures { result ≡ take 8 (camera_slots c) }
 {
@@ -55,6 +56,7 @@ fn first_eight(c: Camera) -> [Slot; 8]
 }
 
 // The second eight.
+#[tactic(auto, unfolding(crate::specs::Places::camera_slots))]
 fn second_eight(c: Camera) -> [Slot; 8]
     ensures { result ≡ take 8 (drop 8 (camera_slots c)) }
 {
@@ -71,6 +73,7 @@ fn second_eight(c: Camera) -> [Slot; 8]
 }
 
 // The third eight.
+#[tactic(auto, unfolding(crate::specs::Places::camera_slots))]
 fn third_eight(c: Camera) -> [Slot; 8]
     ensures { result ≡ take 8 (drop 16 (camera_slots c)) }
 {
@@ -87,6 +90,7 @@ fn third_eight(c: Camera) -> [Slot; 8]
 }
 
 // The fourth eight.
+#[tactic(auto, unfolding(crate::specs::Places::camera_slots))]
 fn fourth_eight(c: Camera) -> [Slot; 8]
     ensures { result ≡ take 8 (drop 24 (camera_slots c)) }
 {
