@@ -1,7 +1,7 @@
 -- The fields of a Private Camera Metadata by its packs, each by its id and its raw fields: docs/RULES.md, "Frame values".
-use Rattle.std.specs.Prelude.{ℕ, ◌/◌, ◌%◌, List, [], ◌∷◌, cond, eqb, get_or}
+use Rattle.std.specs.Prelude.{ℕ, ◌/◌, ◌%◌, List, [], ◌∷◌, cond, eqb, get_or, Option, Some, None}
 use Rattle.canon_values.specs.declared.Value.{Value}
-use Rattle.canon_values.specs.declared.Value.TheVariants.{Nothing, Code}
+use Rattle.canon_values.specs.declared.Value.TheVariants.{Code}
 use Rattle.canon_groups.specs.declared.Pack.{Pack}
 use Rattle.canon_groups.specs.declared.Lens.{Lens}
 use Rattle.canon_groups.specs.declared.Modes.{Modes}
@@ -12,7 +12,7 @@ use Rattle.canon_groups.specs.declared.Ranges.{Ranges}
 use Rattle.canon_values.specs.Values.{tenths, zoom, quotient, aperture, two_bits, whole, balance_mode, balance_preset, line_index, decibels, sensitivity, dynamic_range, offset, flag, iso_mode, put}
 
 -- a field after a pack of that id, which is the field's where it is k
-unfoldable pub after : ℕ → ℕ → Value → Value → Value
+unfoldable pub after : ℕ → ℕ → Option Value → Option Value → Option Value
 after id k old new = cond (eqb id k) (put old new) old
 
 -- one of a pack's raw fields, by their order in the table
@@ -27,16 +27,16 @@ lens_after id fs g = record {
   t_number = after id 10 g.t_number (aperture (raw fs 0) (raw fs 1));
   real_focal_length = after id 16 g.real_focal_length (tenths (raw fs 0) 0xffffffff);
   focal_length_35 = after id 17 g.focal_length_35 (tenths (raw fs 0) 0xffffffff);
-  set_distortion = after id 18 g.set_distortion (flag (raw fs 0));
+  set_distortion = after id 18 g.set_distortion (Some (flag (raw fs 0)));
   lens_value = after id 18 g.lens_value (offset (raw fs 1));
 }
 
 unfoldable pub modes_after : ℕ → List ℕ → Modes → Modes
 modes_after id fs g = record {
-  focus = after id 2 g.focus (two_bits (raw fs 0));
-  stabilizer = after id 2 g.stabilizer (two_bits (raw fs 1));
-  aperture_mode = after id 2 g.aperture_mode (Code (raw fs 2));
-  infrared = after id 8 g.infrared (Code (raw fs 0));
+  focus = after id 2 g.focus (Some (two_bits (raw fs 0)));
+  stabilizer = after id 2 g.stabilizer (Some (two_bits (raw fs 1)));
+  aperture_mode = after id 2 g.aperture_mode (Some (Code (raw fs 2)));
+  infrared = after id 8 g.infrared (Some (Code (raw fs 0)));
   high_sensitivity = after id 8 g.high_sensitivity (sensitivity (raw fs 1) (raw fs 2));
   iso = after id 20 g.iso (iso_mode (raw fs 0));
 }
@@ -44,7 +44,7 @@ modes_after id fs g = record {
 unfoldable pub shutter_after : ℕ → List ℕ → Shutter → Shutter
 shutter_after id fs g = record {
   speed = after id 3 g.speed (quotient (raw fs 0) (raw fs 1) 0xffff);
-  mode = after id 4 g.mode (two_bits (raw fs 0));
+  mode = after id 4 g.mode (Some (two_bits (raw fs 0)));
   value = after id 4 g.value (quotient (raw fs 1) (raw fs 2) 0xff);
 }
 
@@ -52,14 +52,14 @@ unfoldable pub balance_after : ℕ → List ℕ → Balance → Balance
 balance_after id fs g = record {
   mode = after id 6 g.mode (balance_mode (raw fs 0));
   preset = after id 6 g.preset (balance_preset (raw fs 1));
-  accurate = after id 6 g.accurate (Code (raw fs 2));
+  accurate = after id 6 g.accurate (Some (Code (raw fs 2)));
   temperature = after id 6 g.temperature (whole (raw fs 3) 32767);
   isotemperature = after id 6 g.isotemperature (line_index (raw fs 4));
 }
 
 unfoldable pub gain_after : ℕ → List ℕ → Gain → Gain
 gain_after id fs g = record {
-  mode = after id 11 (after id 7 g.mode (Code (raw fs 0))) (Code (raw fs 0));
+  mode = after id 11 (after id 7 g.mode (Some (Code (raw fs 0)))) (Some (Code (raw fs 0)));
   level = after id 11 (after id 7 g.level (decibels (raw fs 1) 127 (raw fs 3))) (decibels (raw fs 2) 4095 (raw fs 1));
   nd_filter = after id 11 (after id 7 g.nd_filter (whole (raw fs 2) 255)) (whole (raw fs 3) 0xffff);
   iso_speed = after id 9 g.iso_speed (whole (raw fs 0) 0xffffffff);
@@ -106,19 +106,19 @@ raws_of p = get_or (raw_table p) p.id []
 
 -- before the first pack
 abbrev pub no_lens : Lens
-no_lens = record { focal_length = Nothing; electric_zoom = Nothing; f_number = Nothing; t_number = Nothing; real_focal_length = Nothing; focal_length_35 = Nothing; set_distortion = Nothing; lens_value = Nothing }
+no_lens = record { focal_length = None; electric_zoom = None; f_number = None; t_number = None; real_focal_length = None; focal_length_35 = None; set_distortion = None; lens_value = None }
 
 abbrev pub no_modes : Modes
-no_modes = record { focus = Nothing; stabilizer = Nothing; aperture_mode = Nothing; infrared = Nothing; high_sensitivity = Nothing; iso = Nothing }
+no_modes = record { focus = None; stabilizer = None; aperture_mode = None; infrared = None; high_sensitivity = None; iso = None }
 
 abbrev pub no_shutter : Shutter
-no_shutter = record { speed = Nothing; mode = Nothing; value = Nothing }
+no_shutter = record { speed = None; mode = None; value = None }
 
 abbrev pub no_balance : Balance
-no_balance = record { mode = Nothing; preset = Nothing; accurate = Nothing; temperature = Nothing; isotemperature = Nothing }
+no_balance = record { mode = None; preset = None; accurate = None; temperature = None; isotemperature = None }
 
 abbrev pub no_gain : Gain
-no_gain = record { mode = Nothing; level = Nothing; nd_filter = Nothing; iso_speed = Nothing; base_iso = Nothing }
+no_gain = record { mode = None; level = None; nd_filter = None; iso_speed = None; base_iso = None }
 
 abbrev pub no_ranges : Ranges
-no_ranges = record { camera = Nothing; base_gamma = Nothing; tilt = Nothing; roll = Nothing }
+no_ranges = record { camera = None; base_gamma = None; tilt = None; roll = None }

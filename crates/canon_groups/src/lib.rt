@@ -3,15 +3,15 @@
 #![tactic(auto)]
 
 ghost use Rattle.std.specs.Prelude.{◌≡◌};
-ghost use Rattle.canon_groups.specs.Groups.{after, raws_of, lens_after, modes_after, shutter_after, balance_after, gain_after, ranges_after, no_lens, no_modes, no_shutter, no_balance, no_gain, no_ranges};
+ghost use Rattle.canon_groups.specs.Groups.{after, raws_of, lens_after, modes_after, shutter_after, balance_after, gain_after, ranges_after};
 
 use canon_values::{
     Value, aperture, balance_mode, balance_preset, decibels, dynamic_range, flag, iso_mode,
-    line_index, offset, put, quotient, sensitivity, tenths, two_bits, u16_of, u32_of, whole, zoom,
+    line_index, offset, put, quotient, sensitivity, tenths, two_bits, whole, zoom,
 };
 
 // A pack: its id, its four bytes, and the numbers of the first, middle and last two and of all.
-#[derive(Clone, Copy)]
+#[derive(Clone, Copy, Debug, PartialEq, Eq)]
 pub struct Pack {
     pub id: u8,
     pub b0: u8,
@@ -25,68 +25,69 @@ pub struct Pack {
 }
 
 // Packs 1, 5, 10 and 16 to 18.
-#[derive(Clone, Copy)]
+#[derive(Clone, Copy, Debug, Default, PartialEq)]
 pub struct Lens {
-    pub focal_length: Value,
-    pub electric_zoom: Value,
-    pub f_number: Value,
-    pub t_number: Value,
-    pub real_focal_length: Value,
-    pub focal_length_35: Value,
-    pub set_distortion: Value,
-    pub lens_value: Value,
+    pub focal_length: Option<Value>,
+    pub electric_zoom: Option<Value>,
+    pub f_number: Option<Value>,
+    pub t_number: Option<Value>,
+    pub real_focal_length: Option<Value>,
+    pub focal_length_35: Option<Value>,
+    pub set_distortion: Option<Value>,
+    pub lens_value: Option<Value>,
 }
 
 // Packs 2, 8 and 20.
-#[derive(Clone, Copy)]
+#[derive(Clone, Copy, Debug, Default, PartialEq)]
 pub struct Modes {
-    pub focus: Value,
-    pub stabilizer: Value,
-    pub aperture_mode: Value,
-    pub infrared: Value,
-    pub high_sensitivity: Value,
-    pub iso: Value,
+    pub focus: Option<Value>,
+    pub stabilizer: Option<Value>,
+    pub aperture_mode: Option<Value>,
+    pub infrared: Option<Value>,
+    pub high_sensitivity: Option<Value>,
+    pub iso: Option<Value>,
 }
 
 // Packs 3 and 4.
-#[derive(Clone, Copy)]
+#[derive(Clone, Copy, Debug, Default, PartialEq)]
 pub struct Shutter {
-    pub speed: Value,
-    pub mode: Value,
-    pub value: Value,
+    pub speed: Option<Value>,
+    pub mode: Option<Value>,
+    pub value: Option<Value>,
 }
 
 // Pack 6.
-#[derive(Clone, Copy)]
+#[derive(Clone, Copy, Debug, Default, PartialEq)]
 pub struct Balance {
-    pub mode: Value,
-    pub preset: Value,
-    pub accurate: Value,
-    pub temperature: Value,
-    pub isotemperature: Value,
+    pub mode: Option<Value>,
+    pub preset: Option<Value>,
+    pub accurate: Option<Value>,
+    pub temperature: Option<Value>,
+    pub isotemperature: Option<Value>,
 }
 
 // Packs 7, 9, 11 and 19.
-#[derive(Clone, Copy)]
+#[derive(Clone, Copy, Debug, Default, PartialEq)]
 pub struct Gain {
-    pub mode: Value,
-    pub level: Value,
-    pub nd_filter: Value,
-    pub iso_speed: Value,
-    pub base_iso: Value,
+    pub mode: Option<Value>,
+    pub level: Option<Value>,
+    pub nd_filter: Option<Value>,
+    pub iso_speed: Option<Value>,
+    pub base_iso: Option<Value>,
 }
 
 // Packs 12 to 15.
-#[derive(Clone, Copy)]
+#[derive(Clone, Copy, Debug, Default, PartialEq)]
 pub struct Ranges {
-    pub camera: Value,
-    pub base_gamma: Value,
-    pub tilt: Value,
-    pub roll: Value,
+    pub camera: Option<Value>,
+    pub base_gamma: Option<Value>,
+    pub tilt: Option<Value>,
+    pub roll: Option<Value>,
 }
 
 // A field after a pack, which is the field's where it has the id.
-fn after(p: Pack, id: u8, old: Value, new: Value) -> Value
+#[tactic(auto, unfolding(crate::specs::Groups::after))]
+fn after(p: Pack, id: u8, old: Option<Value>, new: Option<Value>) -> Option<Value>
     ensures { result ≡ after p.id id old new }
 {
     if p.id == id { put(old, new) } else { old }
@@ -96,23 +97,15 @@ fn after(p: Pack, id: u8, old: Value, new: Value) -> Value
 pub fn lens_after(p: Pack, g: Lens) -> Lens
     ensures { result ≡ lens_after p.id (raws_of p) g }
 {
-    let focal_length = g.focal_length;
-    let electric_zoom = g.electric_zoom;
-    let f_number = g.f_number;
-    let t_number = g.t_number;
-    let real_focal_length = g.real_focal_length;
-    let focal_length_35 = g.focal_length_35;
-    let set_distortion = g.set_distortion;
-    let lens_value = g.lens_value;
     Lens {
-        focal_length: after(p, 1, focal_length, tenths(u32_of(p.first), 0xffff)),
-        electric_zoom: after(p, 1, electric_zoom, zoom(p.last)),
-        f_number: after(p, 5, f_number, aperture(p.first, p.last)),
-        t_number: after(p, 10, t_number, aperture(p.first, p.last)),
-        real_focal_length: after(p, 16, real_focal_length, tenths(p.whole, 0xffff_ffff)),
-        focal_length_35: after(p, 17, focal_length_35, tenths(p.whole, 0xffff_ffff)),
-        set_distortion: after(p, 18, set_distortion, flag(p.b0 / 128)),
-        lens_value: after(p, 18, lens_value, offset(p.last)),
+        focal_length: after(p, 1, g.focal_length, tenths(u32::from(p.first), 0xffff)),
+        electric_zoom: after(p, 1, g.electric_zoom, zoom(p.last)),
+        f_number: after(p, 5, g.f_number, aperture(p.first, p.last)),
+        t_number: after(p, 10, g.t_number, aperture(p.first, p.last)),
+        real_focal_length: after(p, 16, g.real_focal_length, tenths(p.whole, 0xffff_ffff)),
+        focal_length_35: after(p, 17, g.focal_length_35, tenths(p.whole, 0xffff_ffff)),
+        set_distortion: after(p, 18, g.set_distortion, Some(flag(p.b0 / 128))),
+        lens_value: after(p, 18, g.lens_value, offset(p.last)),
     }
 }
 
@@ -120,19 +113,13 @@ pub fn lens_after(p: Pack, g: Lens) -> Lens
 pub fn modes_after(p: Pack, g: Modes) -> Modes
     ensures { result ≡ modes_after p.id (raws_of p) g }
 {
-    let focus = g.focus;
-    let stabilizer = g.stabilizer;
-    let aperture_mode = g.aperture_mode;
-    let infrared = g.infrared;
-    let high_sensitivity = g.high_sensitivity;
-    let iso = g.iso;
     Modes {
-        focus: after(p, 2, focus, two_bits(p.b0 / 64)),
-        stabilizer: after(p, 2, stabilizer, two_bits(p.b0 / 16 % 4)),
-        aperture_mode: after(p, 2, aperture_mode, Value::Code(p.b0 / 8 % 2)),
-        infrared: after(p, 8, infrared, Value::Code(p.b0 / 64)),
-        high_sensitivity: after(p, 8, high_sensitivity, sensitivity(p.b0 % 16, p.b1 % 2)),
-        iso: after(p, 20, iso, iso_mode(p.b0 % 4)),
+        focus: after(p, 2, g.focus, Some(two_bits(p.b0 / 64))),
+        stabilizer: after(p, 2, g.stabilizer, Some(two_bits(p.b0 / 16 % 4))),
+        aperture_mode: after(p, 2, g.aperture_mode, Some(Value::Code(p.b0 / 8 % 2))),
+        infrared: after(p, 8, g.infrared, Some(Value::Code(p.b0 / 64))),
+        high_sensitivity: after(p, 8, g.high_sensitivity, sensitivity(p.b0 % 16, p.b1 % 2)),
+        iso: after(p, 20, g.iso, iso_mode(p.b0 % 4)),
     }
 }
 
@@ -140,13 +127,10 @@ pub fn modes_after(p: Pack, g: Modes) -> Modes
 pub fn shutter_after(p: Pack, g: Shutter) -> Shutter
     ensures { result ≡ shutter_after p.id (raws_of p) g }
 {
-    let speed = g.speed;
-    let mode = g.mode;
-    let value = g.value;
     Shutter {
-        speed: after(p, 3, speed, quotient(p.first, p.last, 0xffff)),
-        mode: after(p, 4, mode, two_bits(p.b0 / 64)),
-        value: after(p, 4, value, quotient(p.middle, u16_of(p.b3), 0xff)),
+        speed: after(p, 3, g.speed, quotient(p.first, p.last, 0xffff)),
+        mode: after(p, 4, g.mode, Some(two_bits(p.b0 / 64))),
+        value: after(p, 4, g.value, quotient(p.middle, u16::from(p.b3), 0xff)),
     }
 }
 
@@ -154,17 +138,17 @@ pub fn shutter_after(p: Pack, g: Shutter) -> Shutter
 pub fn balance_after(p: Pack, g: Balance) -> Balance
     ensures { result ≡ balance_after p.id (raws_of p) g }
 {
-    let mode = g.mode;
-    let preset = g.preset;
-    let accurate = g.accurate;
-    let temperature = g.temperature;
-    let isotemperature = g.isotemperature;
     Balance {
-        mode: after(p, 6, mode, balance_mode(p.b0 / 32)),
-        preset: after(p, 6, preset, balance_preset(p.b0 % 32)),
-        accurate: after(p, 6, accurate, Value::Code(p.b1 / 128)),
-        temperature: after(p, 6, temperature, whole(u32_of(p.middle % 32768), 32767)),
-        isotemperature: after(p, 6, isotemperature, line_index(p.b3)),
+        mode: after(p, 6, g.mode, balance_mode(p.b0 / 32)),
+        preset: after(p, 6, g.preset, balance_preset(p.b0 % 32)),
+        accurate: after(p, 6, g.accurate, Some(Value::Code(p.b1 / 128))),
+        temperature: after(
+            p,
+            6,
+            g.temperature,
+            whole(u32::from(p.middle % 32768), 32767),
+        ),
+        isotemperature: after(p, 6, g.isotemperature, line_index(p.b3)),
     }
 }
 
@@ -172,20 +156,20 @@ pub fn balance_after(p: Pack, g: Balance) -> Balance
 pub fn gain_after(p: Pack, g: Gain) -> Gain
     ensures { result ≡ gain_after p.id (raws_of p) g }
 {
-    let mode = g.mode;
-    let level = g.level;
-    let nd_filter = g.nd_filter;
-    let iso_speed = g.iso_speed;
-    let base_iso = g.base_iso;
-    let mode = after(p, 7, mode, Value::Code(p.b0 / 128));
-    let level = after(p, 7, level, decibels(u16_of(p.b0 % 128), 127, p.b2 / 16));
-    let nd_filter = after(p, 7, nd_filter, whole(u32_of(u16_of(p.b1)), 255));
+    let mode = after(p, 7, g.mode, Some(Value::Code(p.b0 / 128)));
+    let level = after(
+        p,
+        7,
+        g.level,
+        decibels(u16::from(p.b0 % 128), 127, p.b2 / 16),
+    );
+    let nd_filter = after(p, 7, g.nd_filter, whole(u32::from(p.b1), 255));
     Gain {
-        mode: after(p, 11, mode, Value::Code(p.b0 / 128)),
+        mode: after(p, 11, mode, Some(Value::Code(p.b0 / 128))),
         level: after(p, 11, level, decibels(p.first % 4096, 4095, p.b0 / 16 % 8)),
-        nd_filter: after(p, 11, nd_filter, whole(u32_of(p.last), 0xffff)),
-        iso_speed: after(p, 9, iso_speed, whole(p.whole, 0xffff_ffff)),
-        base_iso: after(p, 19, base_iso, whole(p.whole, 0xffff_ffff)),
+        nd_filter: after(p, 11, nd_filter, whole(u32::from(p.last), 0xffff)),
+        iso_speed: after(p, 9, g.iso_speed, whole(p.whole, 0xffff_ffff)),
+        base_iso: after(p, 19, g.base_iso, whole(p.whole, 0xffff_ffff)),
     }
 }
 
@@ -193,93 +177,10 @@ pub fn gain_after(p: Pack, g: Gain) -> Gain
 pub fn ranges_after(p: Pack, g: Ranges) -> Ranges
     ensures { result ≡ ranges_after p.id (raws_of p) g }
 {
-    let camera = g.camera;
-    let base_gamma = g.base_gamma;
-    let tilt = g.tilt;
-    let roll = g.roll;
     Ranges {
-        camera: after(p, 12, camera, dynamic_range(p.whole)),
-        base_gamma: after(p, 13, base_gamma, tenths(p.whole, 0xffff_ffff)),
-        tilt: after(p, 14, tilt, offset(p.first)),
-        roll: after(p, 15, roll, offset(p.first)),
-    }
-}
-
-// The lens before the first pack.
-pub fn no_lens() -> Lens
-    ensures { result ≡ no_lens }
-{
-    Lens {
-        focal_length: Value::Nothing,
-        electric_zoom: Value::Nothing,
-        f_number: Value::Nothing,
-        t_number: Value::Nothing,
-        real_focal_length: Value::Nothing,
-        focal_length_35: Value::Nothing,
-        set_distortion: Value::Nothing,
-        lens_value: Value::Nothing,
-    }
-}
-
-// The modes before the first pack.
-pub fn no_modes() -> Modes
-    ensures { result ≡ no_modes }
-{
-    Modes {
-        focus: Value::Nothing,
-        stabilizer: Value::Nothing,
-        aperture_mode: Value::Nothing,
-        infrared: Value::Nothing,
-        high_sensitivity: Value::Nothing,
-        iso: Value::Nothing,
-    }
-}
-
-// The shutter before the first pack.
-pub fn no_shutter() -> Shutter
-    ensures { result ≡ no_shutter }
-{
-    Shutter {
-        speed: Value::Nothing,
-        mode: Value::Nothing,
-        value: Value::Nothing,
-    }
-}
-
-// The white balance before the first pack.
-pub fn no_balance() -> Balance
-    ensures { result ≡ no_balance }
-{
-    Balance {
-        mode: Value::Nothing,
-        preset: Value::Nothing,
-        accurate: Value::Nothing,
-        temperature: Value::Nothing,
-        isotemperature: Value::Nothing,
-    }
-}
-
-// The gain before the first pack.
-pub fn no_gain() -> Gain
-    ensures { result ≡ no_gain }
-{
-    Gain {
-        mode: Value::Nothing,
-        level: Value::Nothing,
-        nd_filter: Value::Nothing,
-        iso_speed: Value::Nothing,
-        base_iso: Value::Nothing,
-    }
-}
-
-// The ranges before the first pack.
-pub fn no_ranges() -> Ranges
-    ensures { result ≡ no_ranges }
-{
-    Ranges {
-        camera: Value::Nothing,
-        base_gamma: Value::Nothing,
-        tilt: Value::Nothing,
-        roll: Value::Nothing,
+        camera: after(p, 12, g.camera, dynamic_range(p.whole)),
+        base_gamma: after(p, 13, g.base_gamma, tenths(p.whole, 0xffff_ffff)),
+        tilt: after(p, 14, g.tilt, offset(p.first)),
+        roll: after(p, 15, g.roll, offset(p.first)),
     }
 }

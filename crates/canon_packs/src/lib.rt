@@ -8,13 +8,12 @@ ghost use Rattle.canon_packs.specs.Camera.{pack_at, camera_after, unknown, camer
 
 use canon_groups::{
     Balance, Gain, Lens, Modes, Pack, Ranges, Shutter, balance_after, gain_after, lens_after,
-    modes_after, no_balance, no_gain, no_lens, no_modes, no_ranges, no_shutter, ranges_after,
-    shutter_after,
+    modes_after, ranges_after, shutter_after,
 };
-use parts::{four_at, lesser, two_at};
+use parts::{four_at, two_at};
 
 // What a Private Camera Metadata says, a place for each field.
-#[derive(Clone, Copy)]
+#[derive(Clone, Copy, Debug, Default, PartialEq)]
 pub struct Camera {
     pub lens: Lens,
     pub modes: Modes,
@@ -25,6 +24,7 @@ pub struct Camera {
 }
 
 // The camera after a pack.
+#[tactic(auto, unfolding(crate::specs::Camera::camera_after))]
 fn camera_after(p: Pack, c: Camera) -> Camera
     ensures { result ≡ camera_after p.id (raws_of p) c }
 {
@@ -42,17 +42,11 @@ fn camera_after(p: Pack, c: Camera) -> Camera
 fn unknown() -> Camera
     ensures { result ≡ unknown }
 {
-    Camera {
-        lens: no_lens(),
-        modes: no_modes(),
-        shutter: no_shutter(),
-        balance: no_balance(),
-        gain: no_gain(),
-        ranges: no_ranges(),
-    }
+    Camera::default()
 }
 
 // The pack at a place.
+#[tactic(auto, unfolding(crate::specs::Camera::pack_at))]
 fn pack_at(s: &[u8], at: usize) -> Pack
     requires { at + 5 ≤ length s.now }
     ensures { result ≡ pack_at s.now at }
@@ -75,15 +69,12 @@ pub fn read(s: &[u8]) -> Camera
     ensures { result ≡ camera_of s.now }
 {
     let mut c = unknown();
-    if s.len() == 0 {
+    if s.is_empty() {
         return c;
     }
-    let count = s[0] as usize;
-    let n = lesser(count, (s.len() - 1) / 5);
-    let mut i = 0;
-    while i < n {
+    let n = usize::from(s[0]).min((s.len() - 1) / 5);
+    for i in 0..n {
         c = camera_after(pack_at(s, 1 + 5 * i), c);
-        i += 1;
     }
     c
 }

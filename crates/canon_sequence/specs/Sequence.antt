@@ -1,25 +1,21 @@
 -- Sequence info: docs/RULES.md, "Tables inside values", Canon.
-use Rattle.std.specs.Prelude.{ℕ, List, false, cond, ◌&&◌, eqb}
+use Rattle.std.specs.Prelude.{ℕ, ℤ, List, false, cond, ◌&&◌, eqb, Option, Some, None}
 use Rattle.signed.specs.Signed.{signed_bits}
 use Rattle.parts.specs.Number.{number_at}
 use Rattle.klv.specs.declared.Klv.{Klv}
 use Rattle.klv.specs.Item.{Item, tag_of}
 use Rattle.items.specs.Items.{items_of}
 use Rattle.items.specs.After.{after}
-use Rattle.canon_sequence.specs.declared.Position.{Position}
-use Rattle.canon_sequence.specs.declared.Position.TheVariants as position
-use Rattle.canon_sequence.specs.declared.Identifier.{Identifier}
-use Rattle.canon_sequence.specs.declared.Identifier.TheVariants as identifier
 use Rattle.canon_sequence.specs.declared.Sequence.{Sequence}
 
 -- a position after an item with a tag: signed, of exactly 8 bytes
-unfoldable pub position_after : List ℕ → ℕ → Klv → ℕ → Position → Position
+unfoldable pub position_after : List ℕ → ℕ → Klv → ℕ → Option ℤ → Option ℤ
 position_after s tag k field old =
-    cond (eqb tag field && eqb k.len 8) (position.Is (signed_bits 64 (number_at s k.value 8))) old
+    cond (eqb tag field && eqb k.len 8) (Some (signed_bits 64 (number_at s k.value 8))) old
 
 -- an identifier after an item with a tag: the item's bytes
-unfoldable pub identifier_after : ℕ → Klv → ℕ → Identifier → Identifier
-identifier_after tag k field old = cond (eqb tag field) (identifier.Is k) old
+unfoldable pub identifier_after : ℕ → Klv → ℕ → Option Klv → Option Klv
+identifier_after tag k field old = cond (eqb tag field) (Some k) old
 
 -- tags 1501h and 1201h are positions, 3C0Ah and 4401h identifiers
 unfoldable pub fields_after : List ℕ → ℕ → Klv → Sequence → Sequence
@@ -31,7 +27,7 @@ fields_after s tag k q = record {
 }
 
 abbrev pub empty : Sequence
-empty = record { instance_uid = identifier.Nothing; package_uid = identifier.Nothing; start_timecode = position.Nothing; start_position = position.Nothing }
+empty = record { instance_uid = None; package_uid = None; start_timecode = None; start_position = None }
 
 -- after an item of the set
 abbrev pub fields_on : List ℕ → Sequence → Item → Sequence

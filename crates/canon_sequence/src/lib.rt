@@ -5,72 +5,50 @@
 ghost use Rattle.std.specs.Prelude.{◌≡◌, ◌+◌, ◌≤◌, length};
 ghost use Rattle.canon_sequence.specs.Sequence.{position_after, identifier_after, fields_after, empty, sequence_of};
 
-use items::{Coding, Local, LocalNext};
+use items::{Coding, Local};
 use klv::Klv;
 use parts::{number_at, two_at};
 
-// A place in the clip.
-#[derive(Clone, Copy)]
-pub enum Position {
-    Nothing,
-    Is(i64),
-}
-
-// An identifier: the value's bytes of an item.
-#[derive(Clone, Copy)]
-pub enum Identifier {
-    Nothing,
-    Is(Klv),
-}
-
-// What a sequence info says.
-#[derive(Clone, Copy)]
+// What a sequence info says: identifiers, each the value's bytes of an item, and places in the clip.
+#[derive(Clone, Copy, Default)]
 pub struct Sequence {
-    pub instance_uid: Identifier,
-    pub package_uid: Identifier,
-    pub start_timecode: Position,
-    pub start_position: Position,
+    pub instance_uid: Option<Klv>,
+    pub package_uid: Option<Klv>,
+    pub start_timecode: Option<i64>,
+    pub start_position: Option<i64>,
 }
 
 // A position after an item with a tag.
-fn position_after(s: &[u8], tag: u16, k: Klv, field: u16, old: Position) -> Position
+#[tactic(auto, unfolding(crate::specs::Sequence::position_after))]
+fn position_after(s: &[u8], tag: u16, k: Klv, field: u16, old: Option<i64>) -> Option<i64>
     requires { k.value + k.len ≤ length s.now }
     ensures { result ≡ position_after s.now tag k field old }
 {
-    if tag != field {
+    if tag != field || k.len != 8 {
         return old;
     }
-    if k.len != 8 {
-        return old;
-    }
-    let bits = number_at(s, k.value, 8);
-    Position::Is(signed::signed64(bits))
+    Some(signed::signed64(number_at(s, k.value, 8)))
 }
 
 // An identifier after an item with a tag.
-fn identifier_after(tag: u16, k: Klv, field: u16, old: Identifier) -> Identifier
+#[tactic(auto, unfolding(crate::specs::Sequence::identifier_after))]
+fn identifier_after(tag: u16, k: Klv, field: u16, old: Option<Klv>) -> Option<Klv>
     ensures { result ≡ identifier_after tag k field old }
 {
-    if tag == field {
-        return Identifier::Is(k);
-    }
-    old
+    if tag == field { Some(k) } else { old }
 }
 
 // The fields after an item with a tag.
+#[tactic(auto, unfolding(crate::specs::Sequence::fields_after))]
 fn fields_after(s: &[u8], tag: u16, k: Klv, q: Sequence) -> Sequence
     requires { k.value + k.len ≤ length s.now }
     ensures { result ≡ fields_after s.now tag k q }
 {
-    let instance_uid = q.instance_uid;
-    let package_uid = q.package_uid;
-    let start_timecode = q.start_timecode;
-    let start_position = q.start_position;
     Sequence {
-        instance_uid: identifier_after(tag, k, 0x3c0a, instance_uid),
-        package_uid: identifier_after(tag, k, 0x4401, package_uid),
-        start_timecode: position_after(s, tag, k, 0x1501, start_timecode),
-        start_position: position_after(s, tag, k, 0x1201, start_position),
+        instance_uid: identifier_after(tag, k, 0x3c0a, q.instance_uid),
+        package_uid: identifier_after(tag, k, 0x4401, q.package_uid),
+        start_timecode: position_after(s, tag, k, 0x1501, q.start_timecode),
+        start_position: position_after(s, tag, k, 0x1201, q.start_position),
     }
 }
 
@@ -78,12 +56,7 @@ fn fields_after(s: &[u8], tag: u16, k: Klv, q: Sequence) -> Sequence
 fn empty() -> Sequence
     ensures { result ≡ empty }
 {
-    Sequence {
-        instance_uid: Identifier::Nothing,
-        package_uid: Identifier::Nothing,
-        start_timecode: Position::Nothing,
-        start_position: Position::Nothing,
-    }
+    Sequence::default()
 }
 
 // What a sequence info says.
@@ -91,14 +64,10 @@ pub fn read(s: &[u8]) -> Sequence
     ensures { result ≡ sequence_of s.now }
 {
     let mut q = empty();
-    let mut at = 0;
-    loop {
-        let c = Local { at };
-        let t = c.step(s, Coding::TWO_TWO);
-        let LocalNext::Item(k, next) = t else {
-            return q;
-        };
+    let mut items = Local { at: 0 };
+    while let Some((k, next)) = items.step(s, Coding::TWO_TWO) {
         q = fields_after(s, two_at(s, k.at), k, q);
-        at = next.at;
+        items = next;
     }
+    q
 }

@@ -16,8 +16,8 @@ use Rattle.items.specs.Items.{run_step, item_step}
 use Rattle.items.proofs.Laws.{item-fits}
 use Rattle.items.proofs.Lists.{item-listed}
 use Rattle.canon_sets.specs.Package.{private_metadata, Entry, entry, labelled, in_run, in_items, items_from, values_from}
-use Rattle.canon_sets.specs.declared.Metadata.{Metadata}
-use Rattle.canon_sets.specs.declared.Metadata.TheVariants as answer
+use Rattle.std.specs.Prelude.{Option, Some, None}
+use Rattle.canon_sets.specs.declared.Package.{Package}
 use Rattle.canon_sets.specs.Told.{told, Moved}
 use Rattle.canon_sets.proofs.Laws.{run-over, run_value, run-other, run_moved, items_over, item-run, item-other, run_in, behind}
 
@@ -75,11 +75,11 @@ pub values_rest : (s : List ℕ) (from end : ℕ) (e : Entry) (more : List Entry
 values_rest s from end e more h x = rest-within (suc (length s - from)) s from end e more (omega arith) h x
 
 -- two answers that say the same are the same
-pub told_once : (from : ℕ) (a b : Metadata) → told from a ≡ told from b → a ≡ b
-told_once from (answer.Value k m) (answer.Value l n) e =
-    let x : entry m.end k ≡ entry n.end l = cc in
-    let y : m.from ≡ n.from = cc in
-    λ i. answer.Value (x i).klv (record { from = y i; end = (x i).end })
-told_once from (answer.Value k m) answer.End e = let z : ◌≡◌ {A = ℕ} 0 1 = cc in absurd (omega arith)
-told_once from answer.End (answer.Value l n) e = let z : ◌≡◌ {A = ℕ} 0 1 = cc in absurd (omega arith)
-told_once from answer.End answer.End e = refl
+pub told_once : (from : ℕ) (a b : Option (Klv × Package)) → told from a ≡ told from b → a ≡ b
+told_once from (Some a) (Some b) e =
+    let x : entry a.1.end a.0 ≡ entry b.1.end b.0 = cc in
+    let y : a.1.from ≡ b.1.from = cc in
+    λ i. Some ((x i).klv, record { from = y i; end = (x i).end })
+told_once from (Some a) None e = let z : ◌≡◌ {A = ℕ} 0 1 = cc in absurd (omega arith)
+told_once from None (Some b) e = let z : ◌≡◌ {A = ℕ} 0 1 = cc in absurd (omega arith)
+told_once from None None e = refl

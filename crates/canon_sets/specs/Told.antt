@@ -1,16 +1,16 @@
 -- What this crate's answers say, each case by the number and values of docs/RULES.md; from is where the cursor stood.
-use Rattle.std.specs.Prelude.{ℕ, ◌-◌, ◌≤◌, ◌<◌, ◌≡◌, List, [], ◌∷◌, length}
+use Rattle.std.specs.Prelude.{ℕ, ◌-◌, ◌≤◌, ◌<◌, ◌≡◌, List, [], ◌∷◌, length, Option, Some, None}
 use Rattle.steps.specs.Told.{Told, found, nothing}
 use Rattle.klv.specs.Item.{past}
 use Rattle.canon_sets.specs.declared.Turn.{Turn}
 use Rattle.canon_sets.specs.declared.Turn.TheVariants as turn
-use Rattle.canon_sets.specs.declared.Metadata.{Metadata}
-use Rattle.canon_sets.specs.declared.Metadata.TheVariants as metadata
+use Rattle.klv.specs.declared.Klv.{Klv}
+use Rattle.canon_sets.specs.declared.Package.{Package}
 use Rattle.canon_sets.specs.Package.{Entry, entry, values_from}
 
-abbrev pub told : ℕ → Metadata → Told Entry
-told from (metadata.Value k next) = found (entry next.end k) next.from
-told from metadata.End = nothing from
+abbrev pub told : ℕ → Option (Klv × Package) → Told Entry
+told from (Some a) = found (entry a.1.end a.0) a.1.from
+told from None = nothing from
 
 -- the first of the values, and the cursor past it
 unfoldable pub first_of : ℕ → List Entry → Told Entry

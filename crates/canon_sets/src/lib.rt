@@ -6,7 +6,7 @@ ghost use Rattle.std.specs.Prelude.{◌≡◌, ◌≤◌, []};
 ghost use Rattle.canon_sets.specs.Package.{values_from, in_run};
 ghost use Rattle.canon_sets.specs.Told.{told, first_of, Turned};
 
-use items::{Coding, Local, LocalNext, Run, RunNext};
+use items::{Coding, Local, Run};
 use klv::Klv;
 
 // The packs of a camera.
@@ -29,9 +29,7 @@ fn next_item(s: &[u8], from: usize, end: usize) -> Turn
     requires { (from ≤ end) × (in_run s.now from end ≡ []) }
     ensures { Turned s.now from end result }
 {
-    let c = Local { at: end };
-    let t = c.step(s, Coding::ONE_TWO);
-    let LocalNext::Item(k, next) = t else {
+    let Some((k, next)) = (Local { at: end }).step(s, Coding::ONE_TWO) else {
         return Turn::Over;
     };
     if parts::one_at(s, k.at) == 0x88 {
@@ -46,9 +44,7 @@ fn turn_at(s: &[u8], from: usize, end: usize) -> Turn
     ensures { Turned s.now from end result }
 {
     let run = parts::part(s, 0, end);
-    let c = Run { at: from };
-    let t = c.step(run);
-    let RunNext::Item(k, next) = t else {
+    let Some((k, next)) = (Run { at: from }).step(run) else {
         return next_item(s, from, end);
     };
     if labels::same_label(k.label(run), &PRIVATE_CAMERA_METADATA) {
@@ -58,33 +54,23 @@ fn turn_at(s: &[u8], from: usize, end: usize) -> Turn
 }
 
 // Where a package set is read: the place in an item's run, and where that ends and the next item starts. It begins with 0 and 0.
-#[derive(Clone, Copy)]
+#[derive(Clone, Copy, Debug, Default, PartialEq, Eq)]
 pub struct Package {
     pub from: usize,
     pub end: usize,
 }
 
-// What a step finds.
-#[derive(Clone, Copy)]
-pub enum Metadata {
-    // A Private Camera Metadata, and the cursor past it.
-    Value(Klv, Package),
-    // None is left.
-    End,
-}
-
 impl Package {
-    // The next Private Camera Metadata of a package set, with the moved cursor, or the end.
-    pub fn step(self, s: &[u8]) -> Metadata
+    // The next Private Camera Metadata of a package set, and the cursor past it.
+    pub fn step(self, s: &[u8]) -> Option<(Klv, Package)>
         ensures { told self.from result ≡ first_of self.from (values_from s.now self.from self.end) }
     {
         let mut end = self.end;
-        let mut from = parts::lesser(self.from, end);
+        let mut from = self.from.min(end);
         loop {
-            let t = turn_at(s, from, end);
-            match t {
-                Turn::Value(k, next) => return Metadata::Value(k, Package { from: next, end }),
-                Turn::Over => return Metadata::End,
+            match turn_at(s, from, end) {
+                Turn::Value(k, next) => return Some((k, Package { from: next, end })),
+                Turn::Over => return None,
                 Turn::On(f, e) => {
                     from = f;
                     end = e;

@@ -5,9 +5,8 @@ ghost use Rattle.std.specs.Prelude.{◌≡◌};
 ghost use Rattle.canon_values.specs.Values.{tenths, zoom, missing, quotient, aperture, two_bits, whole, balance_mode, balance_preset, line_index, decibels, sensitivity, dynamic_range, offset, flag, iso_mode, put};
 
 // A field's value. The texts are those that don't come from a table of names.
-#[derive(Clone, Copy)]
+#[derive(Clone, Copy, Debug, PartialEq)]
 pub enum Value {
-    Nothing,
     // What a table of names is asked for.
     Code(u8),
     Whole(u32),
@@ -23,75 +22,59 @@ pub enum Value {
 }
 
 // A value in tenths, unless it is the number that says that there is none.
-pub fn tenths(v: u32, none: u32) -> Value
+#[tactic(auto, unfolding(crate::specs::Values::tenths))]
+pub fn tenths(v: u32, none: u32) -> Option<Value>
     ensures { result ≡ tenths v none }
 {
     if v == none {
-        return Value::Nothing;
+        return None;
     }
-    Value::Float(floats::ratio(v, 10))
-}
-
-// A number of two bytes as one of four, and a byte as one of two.
-pub fn u32_of(v: u16) -> u32
-    ensures { result ≡ v }
-{
-    v as u32
-}
-
-pub fn u16_of(v: u8) -> u16
-    ensures { result ≡ v }
-{
-    v as u16
+    Some(Value::Float(floats::ratio(v, 10)))
 }
 
 // An electric zoom.
-pub fn zoom(v: u16) -> Value
+#[tactic(auto, unfolding(crate::specs::Values::zoom))]
+pub fn zoom(v: u16) -> Option<Value>
     ensures { result ≡ zoom v }
 {
     if v == 0 {
-        return Value::Off;
+        return Some(Value::Off);
     }
-    tenths(u32_of(v), 0xffff)
+    tenths(u32::from(v), 0xffff)
 }
 
 // Whether a number is 0 or the one that says that there is none.
+#[tactic(auto, unfolding(crate::specs::Values::missing))]
 fn missing(v: u16, none: u16) -> bool
     ensures { result ≡ missing v none }
 {
-    if v == 0 {
-        return true;
-    }
-    v == none
+    v == 0 || v == none
 }
 
 // A quotient of two numbers, unless one of them is 0 or says that there is none.
-pub fn quotient(a: u16, b: u16, none: u16) -> Value
+#[tactic(auto, unfolding(crate::specs::Values::quotient))]
+pub fn quotient(a: u16, b: u16, none: u16) -> Option<Value>
     ensures { result ≡ quotient a b none }
 {
-    if missing(a, 0xffff) {
-        return Value::Nothing;
+    if missing(a, 0xffff) || missing(b, none) {
+        return None;
     }
-    if missing(b, none) {
-        return Value::Nothing;
-    }
-    Value::Float(floats::ratio(u32_of(a), u32_of(b)))
+    Some(Value::Float(floats::ratio(u32::from(a), u32::from(b))))
 }
 
 // An aperture: closed is looked at first.
-pub fn aperture(a: u16, b: u16) -> Value
+#[tactic(auto, unfolding(crate::specs::Values::aperture))]
+pub fn aperture(a: u16, b: u16) -> Option<Value>
     ensures { result ≡ aperture a b }
 {
-    if a == 65534 {
-        return Value::Close;
-    }
-    if b == 65534 {
-        return Value::Close;
+    if a == 65534 || b == 65534 {
+        return Some(Value::Close);
     }
     quotient(a, b, 0xffff)
 }
 
 // A code of two bits, whose 3 is no information: 255.
+#[tactic(auto, unfolding(crate::specs::Values::two_bits))]
 pub fn two_bits(code: u8) -> Value
     ensures { result ≡ two_bits code }
 {
@@ -102,120 +85,120 @@ pub fn two_bits(code: u8) -> Value
 }
 
 // A whole number, unless it is the one that says that there is none.
-pub fn whole(v: u32, none: u32) -> Value
+#[tactic(auto, unfolding(crate::specs::Values::whole))]
+pub fn whole(v: u32, none: u32) -> Option<Value>
     ensures { result ≡ whole v none }
 {
     if v == none {
-        return Value::Nothing;
+        return None;
     }
-    Value::Whole(v)
+    Some(Value::Whole(v))
 }
 
 // A white balance's mode.
-pub fn balance_mode(code: u8) -> Value
+#[tactic(auto, unfolding(crate::specs::Values::balance_mode))]
+pub fn balance_mode(code: u8) -> Option<Value>
     ensures { result ≡ balance_mode code }
 {
     if code == 7 {
-        return Value::Nothing;
+        return None;
     }
-    Value::Code(code)
+    Some(Value::Code(code))
 }
 
 // A white balance's preset.
-pub fn balance_preset(code: u8) -> Value
+#[tactic(auto, unfolding(crate::specs::Values::balance_preset))]
+pub fn balance_preset(code: u8) -> Option<Value>
     ensures { result ≡ balance_preset code }
 {
-    if code == 30 {
-        return Value::Others;
+    match code {
+        30 => Some(Value::Others),
+        31 => None,
+        _ => Some(Value::Code(code)),
     }
-    if code == 31 {
-        return Value::Nothing;
-    }
-    Value::Code(code)
 }
 
 // An isotemperature line.
-pub fn line_index(v: u8) -> Value
+#[tactic(auto, unfolding(crate::specs::Values::line_index))]
+pub fn line_index(v: u8) -> Option<Value>
     ensures { result ≡ line_index v }
 {
     if v == 255 {
-        return Value::Nothing;
+        return None;
     }
-    Value::Signed(signed::around8(v))
+    Some(Value::Signed(signed::around8(v)))
 }
 
 // A gain in dB: its two products are rounded, and then their sum.
-pub fn decibels(master: u16, none: u16, delta: u8) -> Value
+#[tactic(auto, unfolding(crate::specs::Values::decibels))]
+pub fn decibels(master: u16, none: u16, delta: u8) -> Option<Value>
     ensures { result ≡ decibels master none delta }
 {
     if master == none {
-        return Value::Nothing;
+        return None;
     }
-    if delta <= 4 {
-        return Value::Float(floats::gain(master, delta));
-    }
-    Value::Float(floats::gain(master, 0))
+    let delta = if delta <= 4 { delta } else { 0 };
+    Some(Value::Float(floats::gain(master, delta)))
 }
 
 // Whether sensitivity is high, told by packs of type 0.
-pub fn sensitivity(kind: u8, code: u8) -> Value
+#[tactic(auto, unfolding(crate::specs::Values::sensitivity))]
+pub fn sensitivity(kind: u8, code: u8) -> Option<Value>
     ensures { result ≡ sensitivity kind code }
 {
     if kind == 0 {
-        return Value::Code(code);
+        return Some(Value::Code(code));
     }
-    Value::Nothing
+    None
 }
 
 // A dynamic range.
-pub fn dynamic_range(v: u32) -> Value
+#[tactic(auto, unfolding(crate::specs::Values::dynamic_range))]
+pub fn dynamic_range(v: u32) -> Option<Value>
     ensures { result ≡ dynamic_range v }
 {
     if v == 0xffff_fffe {
-        return Value::Auto;
+        return Some(Value::Auto);
     }
     tenths(v, 0xffff_ffff)
 }
 
 // A value in tenths around 8000h.
-pub fn offset(v: u16) -> Value
+#[tactic(auto, unfolding(crate::specs::Values::offset))]
+pub fn offset(v: u16) -> Option<Value>
     ensures { result ≡ offset v }
 {
     if v == 0xffff {
-        return Value::Nothing;
+        return None;
     }
-    Value::Float(floats::offset_tenths(v))
+    Some(Value::Float(floats::offset_tenths(v)))
 }
 
 // Whether a bit is set.
+#[tactic(auto, unfolding(crate::specs::Values::flag))]
 pub fn flag(bit: u8) -> Value
     ensures { result ≡ flag bit }
 {
-    if bit == 0 {
-        return Value::Flag(false);
-    }
-    Value::Flag(true)
+    Value::Flag(bit != 0)
 }
 
 // How ISO is chosen.
-pub fn iso_mode(code: u8) -> Value
+#[tactic(auto, unfolding(crate::specs::Values::iso_mode))]
+pub fn iso_mode(code: u8) -> Option<Value>
     ensures { result ≡ iso_mode code }
 {
-    if code == 0 {
-        return Value::Auto;
+    match code {
+        0 => Some(Value::Auto),
+        1 => Some(Value::Manual),
+        2 => Some(Value::Reserved),
+        _ => None,
     }
-    if code == 1 {
-        return Value::Manual;
-    }
-    if code == 2 {
-        return Value::Reserved;
-    }
-    Value::Nothing
 }
 
 // A value put over another: nothing erases nothing.
-pub fn put(old: Value, new: Value) -> Value
+#[tactic(auto, unfolding(crate::specs::Values::put))]
+pub fn put(old: Option<Value>, new: Option<Value>) -> Option<Value>
     ensures { result ≡ put old new }
 {
-    if let Value::Nothing = new { old } else { new }
+    new.or(old)
 }

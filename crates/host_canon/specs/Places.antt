@@ -1,26 +1,26 @@
 -- The values of a Private Camera Metadata, at the places that a host's arrays have for them: include/brinethimble.h,
 -- BRINE_CAMERA_*.
-use Rattle.std.specs.Prelude.{List, [], ◌∷◌}
+use Rattle.std.specs.Prelude.{List, [], ◌∷◌, Option, Some, None}
 use Rattle.canon_values.specs.declared.Value.{Value}
-use Rattle.canon_values.specs.declared.Value.TheVariants.{Nothing, Code, Whole, Signed, Float, Flag, Off, Close, Others, Auto, Manual, Reserved}
+use Rattle.canon_values.specs.declared.Value.TheVariants.{Code, Whole, Signed, Float, Flag, Off, Close, Others, Auto, Manual, Reserved}
 use Rattle.canon_packs.specs.declared.Camera.{Camera}
 use Rattle.host_slots.specs.declared.Slot.{Slot}
 use Rattle.host_slots.specs.Slots as slots
 
 -- each kind of value
-unfoldable pub value_slot : Value → Slot
-value_slot Nothing = slots.nothing
-value_slot (Code n) = slots.code n
-value_slot (Whole n) = slots.whole n
-value_slot (Signed n) = slots.signed n
-value_slot (Float x) = slots.double x
-value_slot (Flag b) = slots.flag b
-value_slot Off = slots.off
-value_slot Close = slots.close
-value_slot Others = slots.others
-value_slot Auto = slots.auto
-value_slot Manual = slots.manual
-value_slot Reserved = slots.reserved
+unfoldable pub value_slot : Option Value → Slot
+value_slot None = slots.nothing
+value_slot (Some (Code n)) = slots.code n
+value_slot (Some (Whole n)) = slots.whole n
+value_slot (Some (Signed n)) = slots.signed n
+value_slot (Some (Float x)) = slots.double x
+value_slot (Some (Flag b)) = slots.flag b
+value_slot (Some Off) = slots.off
+value_slot (Some Close) = slots.close
+value_slot (Some Others) = slots.others
+value_slot (Some Auto) = slots.auto
+value_slot (Some Manual) = slots.manual
+value_slot (Some Reserved) = slots.reserved
 
 -- all of a camera
 unfoldable pub camera_slots : Camera → List Slot

@@ -15,22 +15,18 @@ use host_slots::{
     of_kind, put,
 };
 
-// A number of 16 bits as one of 64.
-fn wide(n: i16) -> i64
-    ensures { result ≡ n }
-{
-    n as i64
-}
-
 // A value's kind and its bits.
-fn value_slot(v: Value) -> Slot
+#[tactic(auto, unfolding(crate::specs::Places::value_slot))]
+fn value_slot(v: Option<Value>) -> Slot
     ensures { result ≡ value_slot v }
 {
+    let Some(v) = v else {
+        return nothing();
+    };
     match v {
-        Value::Nothing => nothing(),
-        Value::Code(n) => of_kind(CODE, n as u64),
-        Value::Whole(n) => of_kind(WHOLE, n as u64),
-        Value::Signed(n) => of_kind(SIGNED, twos(wide(n))),
+        Value::Code(n) => of_kind(CODE, u64::from(n)),
+        Value::Whole(n) => of_kind(WHOLE, u64::from(n)),
+        Value::Signed(n) => of_kind(SIGNED, twos(i64::from(n))),
         Value::Float(x) => double(x),
         Value::Flag(b) => of_kind(FLAG, mark(b)),
         Value::Off => of_kind(OFF, 0),
@@ -43,106 +39,70 @@ fn value_slot(v: Value) -> Slot
 }
 
 // The first eight.
+#[tactic(auto, unfolding(crate::specs::Places::camera_slots))]
 fn first_eight(c: Camera) -> [Slot; 8]
     ensures { result ≡ take 8 (camera_slots c) }
 {
-    let lens = c.lens;
-    let focal_length = lens.focal_length;
-    let electric_zoom = lens.electric_zoom;
-    let f_number = lens.f_number;
-    let t_number = lens.t_number;
-    let real_focal_length = lens.real_focal_length;
-    let focal_length_35 = lens.focal_length_35;
-    let set_distortion = lens.set_distortion;
-    let lens_value = lens.lens_value;
     [
-        value_slot(focal_length),
-        value_slot(electric_zoom),
-        value_slot(f_number),
-        value_slot(t_number),
-        value_slot(real_focal_length),
-        value_slot(focal_length_35),
-        value_slot(set_distortion),
-        value_slot(lens_value),
+        value_slot(c.lens.focal_length),
+        value_slot(c.lens.electric_zoom),
+        value_slot(c.lens.f_number),
+        value_slot(c.lens.t_number),
+        value_slot(c.lens.real_focal_length),
+        value_slot(c.lens.focal_length_35),
+        value_slot(c.lens.set_distortion),
+        value_slot(c.lens.lens_value),
     ]
 }
 
 // The second eight.
+#[tactic(auto, unfolding(crate::specs::Places::camera_slots))]
 fn second_eight(c: Camera) -> [Slot; 8]
     ensures { result ≡ take 8 (drop 8 (camera_slots c)) }
 {
-    let modes = c.modes;
-    let shutter = c.shutter;
-    let focus = modes.focus;
-    let stabilizer = modes.stabilizer;
-    let aperture_mode = modes.aperture_mode;
-    let infrared = modes.infrared;
-    let high_sensitivity = modes.high_sensitivity;
-    let iso = modes.iso;
-    let speed = shutter.speed;
-    let mode = shutter.mode;
     [
-        value_slot(focus),
-        value_slot(stabilizer),
-        value_slot(aperture_mode),
-        value_slot(infrared),
-        value_slot(high_sensitivity),
-        value_slot(iso),
-        value_slot(speed),
-        value_slot(mode),
+        value_slot(c.modes.focus),
+        value_slot(c.modes.stabilizer),
+        value_slot(c.modes.aperture_mode),
+        value_slot(c.modes.infrared),
+        value_slot(c.modes.high_sensitivity),
+        value_slot(c.modes.iso),
+        value_slot(c.shutter.speed),
+        value_slot(c.shutter.mode),
     ]
 }
 
 // The third eight.
+#[tactic(auto, unfolding(crate::specs::Places::camera_slots))]
 fn third_eight(c: Camera) -> [Slot; 8]
     ensures { result ≡ take 8 (drop 16 (camera_slots c)) }
 {
-    let shutter = c.shutter;
-    let balance = c.balance;
-    let gain = c.gain;
-    let value = shutter.value;
-    let balance_mode = balance.mode;
-    let preset = balance.preset;
-    let accurate = balance.accurate;
-    let temperature = balance.temperature;
-    let isotemperature = balance.isotemperature;
-    let gain_mode = gain.mode;
-    let level = gain.level;
     [
-        value_slot(value),
-        value_slot(balance_mode),
-        value_slot(preset),
-        value_slot(accurate),
-        value_slot(temperature),
-        value_slot(isotemperature),
-        value_slot(gain_mode),
-        value_slot(level),
+        value_slot(c.shutter.value),
+        value_slot(c.balance.mode),
+        value_slot(c.balance.preset),
+        value_slot(c.balance.accurate),
+        value_slot(c.balance.temperature),
+        value_slot(c.balance.isotemperature),
+        value_slot(c.gain.mode),
+        value_slot(c.gain.level),
     ]
 }
 
 // The fourth eight.
+#[tactic(auto, unfolding(crate::specs::Places::camera_slots))]
 fn fourth_eight(c: Camera) -> [Slot; 8]
     ensures { result ≡ take 8 (drop 24 (camera_slots c)) }
 {
-    let gain = c.gain;
-    let ranges = c.ranges;
-    let nd_filter = gain.nd_filter;
-    let iso_speed = gain.iso_speed;
-    let base_iso = gain.base_iso;
-    let camera = ranges.camera;
-    let base_gamma = ranges.base_gamma;
-    let tilt = ranges.tilt;
-    let roll = ranges.roll;
-    let none = nothing();
     [
-        value_slot(nd_filter),
-        value_slot(iso_speed),
-        value_slot(base_iso),
-        value_slot(camera),
-        value_slot(base_gamma),
-        value_slot(tilt),
-        value_slot(roll),
-        none,
+        value_slot(c.gain.nd_filter),
+        value_slot(c.gain.iso_speed),
+        value_slot(c.gain.base_iso),
+        value_slot(c.ranges.camera),
+        value_slot(c.ranges.base_gamma),
+        value_slot(c.ranges.tilt),
+        value_slot(c.ranges.roll),
+        nothing(),
     ]
 }
 

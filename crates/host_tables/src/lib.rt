@@ -16,8 +16,8 @@ ghost use Rattle.host_tables.specs.Places.{header_places, start_places, payload_
 ghost use Rattle.host_tables.specs.Sequence.{spot_of, position_found, position_figure, sequence_places, position_places};
 
 use arri_block::Block;
-use canon_sequence::{Identifier, Position};
-use canon_sets::{Metadata, Package};
+use canon_sets::Package;
+use klv::Klv;
 use st436::Lines;
 
 // The header part of a file whose first bytes are s.
@@ -137,7 +137,7 @@ pub extern "C" fn brine_package(s: &[u8], from: usize, end: usize, out: &mut [u6
 {
     let t = Package { from, end }.step(s);
     match t {
-        Metadata::Value(k, next) => *out = [
+        Some((k, next)) => *out = [
             1,
             k.at as u64,
             k.value as u64,
@@ -145,7 +145,7 @@ pub extern "C" fn brine_package(s: &[u8], from: usize, end: usize, out: &mut [u6
             next.from as u64,
             next.end as u64,
         ],
-        Metadata::End => *out = [0, 0, 0, 0, from as u64, end as u64],
+        None => *out = [0, 0, 0, 0, from as u64, end as u64],
     }
     0
 }
@@ -159,16 +159,17 @@ pub struct Spot {
 }
 
 // Where an identifier's bytes are, if it is there.
-fn spot_of(i: Identifier) -> Spot
+#[tactic(auto, unfolding(crate::specs::Sequence::spot_of))]
+fn spot_of(i: Option<Klv>) -> Spot
     ensures { result ≡ spot_of i }
 {
     match i {
-        Identifier::Is(k) => Spot {
+        Some(k) => Spot {
             found: 1,
             at: k.value as u64,
             len: k.len as u64,
         },
-        Identifier::Nothing => Spot {
+        None => Spot {
             found: 0,
             at: 0,
             len: 0,
@@ -177,23 +178,19 @@ fn spot_of(i: Identifier) -> Spot
 }
 
 // Whether a position is there.
-fn position_found(p: Position) -> u64
+#[tactic(auto, unfolding(crate::specs::Sequence::position_found))]
+fn position_found(p: Option<i64>) -> u64
     ensures { result ≡ position_found p }
 {
-    match p {
-        Position::Is(_) => 1,
-        Position::Nothing => 0,
-    }
+    u64::from(p.is_some())
 }
 
 // A position, 0 for none.
-fn position_figure(p: Position) -> i64
+#[tactic(auto, unfolding(crate::specs::Sequence::position_figure))]
+fn position_figure(p: Option<i64>) -> i64
     ensures { result ≡ position_figure p }
 {
-    match p {
-        Position::Is(n) => n,
-        Position::Nothing => 0,
-    }
+    p.unwrap_or(0)
 }
 
 // A sequence info.
@@ -204,14 +201,10 @@ pub extern "C" fn brine_sequence(s: &[u8], out: &mut [u64; 8], positions: &mut [
     ensures positions_after { positions.new ≡ position_places (sequence_of s.now) }
 {
     let q = canon_sequence::read(s);
-    let instance_uid = q.instance_uid;
-    let package_uid = q.package_uid;
-    let start_timecode = q.start_timecode;
-    let start_position = q.start_position;
-    let instance = spot_of(instance_uid);
-    let package = spot_of(package_uid);
-    let timecode_found = position_found(start_timecode);
-    let position_found = position_found(start_position);
+    let instance = spot_of(q.instance_uid);
+    let package = spot_of(q.package_uid);
+    let timecode_found = position_found(q.start_timecode);
+    let position_found = position_found(q.start_position);
     *out = [
         instance.found,
         instance.at,
@@ -222,8 +215,8 @@ pub extern "C" fn brine_sequence(s: &[u8], out: &mut [u64; 8], positions: &mut [
         timecode_found,
         position_found,
     ];
-    let timecode = position_figure(start_timecode);
-    let position = position_figure(start_position);
+    let timecode = position_figure(q.start_timecode);
+    let position = position_figure(q.start_position);
     *positions = [timecode, position];
     0
 }

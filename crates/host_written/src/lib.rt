@@ -1,5 +1,5 @@
 // What a host links of the writers: numbers and slices in, a status and lent places out (include/brinethimble.h).
-#![tactic(auto)]
+#![tactic(auto, using(crate::proofs::Laws::host_wrote))]
 
 ghost use Rattle.std.specs.Prelude.{◌≡◌, true, length};
 ghost use Rattle.written_lengths.specs.Form.{shortest_size, form_of, holds};
@@ -12,6 +12,7 @@ ghost use Rattle.host_written.specs.Places.{written_status, written_places, Host
 use written_lengths::WriteError;
 
 // A writer's answer as a host has it.
+#[tactic(auto, unfolding(crate::specs::Places::written_status, crate::specs::Places::written_places))]
 fn answered(w: Result<usize, WriteError>, out: &mut [u64; 1]) -> u32
     ensures value { result ≡ written_status w }
     ensures out_after { out.new ≡ written_places w out.old }

@@ -1,5 +1,5 @@
 -- The starred numbers of docs/RULES.md, "Numbers on both sides", together.
-use Rattle.std.specs.Prelude.{ℕ, ◌-◌, ◌^◌, ◌<◌, ◌≡◌, List, [], ◌∷◌, ◌++◌, Bool, true, false, length, replicate, Float, Err, Ok, Result}
+use Rattle.std.specs.Prelude.{ℕ, ◌-◌, ◌^◌, ◌<◌, ◌≡◌, List, [], ◌∷◌, ◌++◌, Bool, true, false, length, replicate, Float, Err, Ok, Result, Some}
 use Rattle.steps.specs.Told.{nothing}
 use Rattle.lengths.specs.declared.Field.{Field}
 use Rattle.lengths.specs.declared.NoLength.{NoLength}
@@ -70,7 +70,7 @@ Distances = ((lens : Bool) → OneMetre (mini.distance_of lens 1000)) × OneMetr
 
 -- apertures: (0, 65534) closed
 abbrev pub Apertures : Type 0
-Apertures = aperture 0 65534 ≡ Close
+Apertures = aperture 0 65534 ≡ Some Close
 
 abbrev pub Starred : Type 0
 Starred = Lengths × Finished × Arriving × Floats × Distances × Apertures

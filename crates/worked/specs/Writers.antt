@@ -1,7 +1,7 @@
 -- Worked numbers of docs/RULES.md, "L8. Writers".
-use Rattle.std.specs.Prelude.{ℕ, ◌^◌, ◌≡◌, List, [], ◌∷◌, ◌++◌, true, false, length, replicate, Ok, Err}
+use Rattle.std.specs.Prelude.{ℕ, ◌^◌, ◌≡◌, List, [], ◌∷◌, ◌++◌, true, false, length, replicate, Ok, Err, Some, None}
 use Rattle.parts.specs.Answer.{is}
-use Rattle.canon_values.specs.declared.Value.TheVariants.{Nothing, Code, Whole}
+use Rattle.canon_values.specs.declared.Value.TheVariants.{Code, Whole}
 use Rattle.canon_packs.specs.Camera.{camera_of}
 use Rattle.items.specs.Items.{run_of}
 use Rattle.primer.specs.Primer.{entry_of}
@@ -71,10 +71,10 @@ Packs =
     × (pack_bytes 11 (1 ∷ 2 ∷ 291 ∷ 4 ∷ []) ≡ 0x0b ∷ 0xa1 ∷ 0x23 ∷ 0x00 ∷ 0x04 ∷ [])
     × (pack_bytes 2 (1 ∷ 3 ∷ 1 ∷ []) ≡ 0x02 ∷ 0x78 ∷ 0x00 ∷ 0x00 ∷ 0x00 ∷ [])
     × (pack_bytes 18 (1 ∷ 0x8001 ∷ []) ≡ 0x12 ∷ 0x80 ∷ 0x00 ∷ 0x80 ∷ 0x01 ∷ [])
-    × ((camera_of (1 ∷ pack_bytes 6 (3 ∷ 31 ∷ 1 ∷ 5600 ∷ 0x80 ∷ []))).balance.mode ≡ Code 3)
-    × ((camera_of (1 ∷ pack_bytes 6 (3 ∷ 31 ∷ 1 ∷ 5600 ∷ 0x80 ∷ []))).balance.preset ≡ Nothing)
-    × ((camera_of (1 ∷ pack_bytes 6 (3 ∷ 31 ∷ 1 ∷ 5600 ∷ 0x80 ∷ []))).balance.accurate ≡ Code 1)
-    × ((camera_of (1 ∷ pack_bytes 6 (3 ∷ 31 ∷ 1 ∷ 5600 ∷ 0x80 ∷ []))).balance.temperature ≡ Whole 5600)
+    × ((camera_of (1 ∷ pack_bytes 6 (3 ∷ 31 ∷ 1 ∷ 5600 ∷ 0x80 ∷ []))).balance.mode ≡ Some (Code 3))
+    × ((camera_of (1 ∷ pack_bytes 6 (3 ∷ 31 ∷ 1 ∷ 5600 ∷ 0x80 ∷ []))).balance.preset ≡ None)
+    × ((camera_of (1 ∷ pack_bytes 6 (3 ∷ 31 ∷ 1 ∷ 5600 ∷ 0x80 ∷ []))).balance.accurate ≡ Some (Code 1))
+    × ((camera_of (1 ∷ pack_bytes 6 (3 ∷ 31 ∷ 1 ∷ 5600 ∷ 0x80 ∷ []))).balance.temperature ≡ Some (Whole 5600))
     × (good_pack 2 (4 ∷ 0 ∷ 0 ∷ []) ≡ false)
     × (good_pack 2 (1 ∷ 3 ∷ []) ≡ false)
     × (good_pack 0 [] ≡ false)

@@ -7,9 +7,9 @@ ghost use Rattle.written_lengths.specs.Form.{holds};
 ghost use Rattle.written_lengths.specs.Wrote.{Wrote};
 ghost use Rattle.written_klvs.specs.Klvs.{klv_bytes, rewritten};
 
-use items::{Run, RunNext};
+use items::Run;
 use text::put_all;
-use written_lengths::{WriteError, holds, place_behind, put_form, shortest};
+use written_lengths::{WriteError, holds, place_behind, put_length, shortest};
 
 // Writes a KLV where there is room for it, its length in a form that holds it.
 fn put_parts(label: &[u8], size: usize, value: &[u8], out: &mut [u8], at: usize)
@@ -17,7 +17,7 @@ fn put_parts(label: &[u8], size: usize, value: &[u8], out: &mut [u8], at: usize)
     ensures { out.new ≡ sets out.old at (klv_bytes label.now size value.now) }
 {
     put_all(out, at, label);
-    put_form(value.len() as u64, size, out, at + 16);
+    put_length(value.len() as u64, size, out, at + 16).unwrap();
     put_all(out, at + 16 + size, value);
 }
 
@@ -45,17 +45,12 @@ fn length_of(s: &[u8]) -> usize
     ensures { result ≡ length (rewritten s.now) }
 {
     let mut n = 0;
-    let mut at = 0;
-    loop {
-        let c = Run { at };
-        let t = c.step(s);
-        let RunNext::Item(k, next) = t else {
-            return n;
-        };
-        let size = shortest(k.len as u64);
-        n += 16 + size + k.len;
-        at = next.at;
+    let mut run = Run { at: 0 };
+    while let Some((k, next)) = run.step(s) {
+        n += 16 + shortest(k.len as u64) + k.len;
+        run = next;
     }
+    n
 }
 
 // Writes a run in shortest form at the start of out, which has room for it.
@@ -64,17 +59,12 @@ fn put_run(s: &[u8], out: &mut [u8])
     ensures { out.new ≡ sets out.old 0 (rewritten s.now) }
 {
     let mut r = 0;
-    let mut at = 0;
-    loop {
-        let c = Run { at };
-        let t = c.step(s);
-        let RunNext::Item(k, next) = t else {
-            return;
-        };
+    let mut run = Run { at: 0 };
+    while let Some((k, next)) = run.step(s) {
         let size = shortest(k.len as u64);
         put_parts(k.label(s), size, k.bytes(s), out, r);
         r += 16 + size + k.len;
-        at = next.at;
+        run = next;
     }
 }
 

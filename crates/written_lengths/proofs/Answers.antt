@@ -5,7 +5,9 @@ use mathlib.Core.List.{List}
 use mathlib.Core.Bool.{Bool, true, false}
 use borrow.Author.Tests.{le-leb, lt-leb}
 use lib.ListN.{length}
-use Rattle.std.specs.Prelude.{Ok, Err}
+use Rattle.std.proofs.Common.{rules}
+use Rattle.std.specs.Prelude.{Result, Ok, Err, IsOk}
+use Rattle.written_lengths.specs.declared.WriteError.{WriteError}
 use lib.Seq.{sets}
 use Rattle.written_lengths.specs.declared.WriteError.TheVariants.{Field, Longer}
 use Rattle.written_lengths.specs.Wrote.{said, into, Wrote}
@@ -28,3 +30,8 @@ module _ (good : Bool) (x : List ℕ) (at : ℕ) (o : List ℕ) where
     pub into-done : n ≤ length o - at → into good x at o ≡ sets o at x
     unfolding into
     into-done h = rw (g, l, le-leb _ _ h)
+
+    -- and that it isn't refused then
+    pub done-ok : n ≤ length o - at → {r : Result ℕ WriteError} {o₂ : List ℕ} → Wrote good x at o r o₂ → IsOk r
+    unfolding said
+    done-ok h w = rw (w.answer, g, l, le-leb _ _ h) (search rules)

@@ -148,7 +148,7 @@ read_is s at f b = go (length_at s at) (case s at)
     go l (c_cut n g m h k) e = absurd (let z : ◌≡◌ {A = ℕ} 0 1 = cc in omega arith)
     go l (c_long n g m h) e = let z : field (get_or s at 0) (1 + n) (number_at s (at + 1) n) ≡ f = cc in rw z at (read_long s at n b g m h)
 
-is_same : {a : Field} (c : Field) → Ok a ≡ Ok c → a ≡ c
+is_same : {a : Field} (c : Field) → ◌≡◌ {A = Result Field NoLength} (Ok a) (Ok c) → a ≡ c
 is_same c x = cc
 
 pub lengths_read : LengthsRead

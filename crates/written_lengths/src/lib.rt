@@ -69,7 +69,7 @@ pub fn shortest(n: u64) -> usize
 }
 
 // Writes the form of so many bytes, which holds the number, where there is room for it.
-pub fn put_form(n: u64, size: usize, out: &mut [u8], at: usize)
+fn put_form(n: u64, size: usize, out: &mut [u8], at: usize)
     requires { (size ≤ 9) × (n < bound_of size) × (at + size ≤ length out.old) }
     ensures { out.new ≡ sets out.old at (form_of size n) }
 {

@@ -35,7 +35,7 @@ const FIELDS: [&[(u32, u32)]; 21] = [
     &[(24, 2)],
 ];
 
-// The fields of a pack.
+// The fields of a pack. That an id is at most 20 stands at this function and the two below alone: a type for it would be no plainer.
 fn fields_of(id: usize) -> &'static [(u32, u32)]
     requires { id ≤ 20 }
     ensures { result.now ≡ fields_of id }

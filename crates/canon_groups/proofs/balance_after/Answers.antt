@@ -8,5 +8,5 @@ returns c =
     (rw c.balance_mode.ensures at c.after.ensures)
     (rw c.balance_preset.ensures at c.after-2.ensures)
     c.after-3.ensures
-    (rw (c.whole.ensures, c.u32_of.ensures) at c.after-4.ensures)
+    (rw (c.whole.ensures, c.from.ensures) at c.after-4.ensures)
     (rw c.line_index.ensures at c.after-5.ensures)

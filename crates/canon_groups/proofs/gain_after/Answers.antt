@@ -6,7 +6,7 @@ pub returns : goal.returns
 returns c =
     gain-raws _ _ _
     (rw c.after-mode.ensures at c.after.ensures)
-    (rw (c.decibels-2.ensures, c.after-level.ensures, c.decibels.ensures, c.u16_of.ensures) at c.after-2.ensures)
-    (rw (c.whole-2.ensures, c.u32_of-2.ensures, c.after-nd_filter.ensures, c.whole.ensures, c.u32_of.ensures, c.u16_of-2.ensures) at c.after-3.ensures)
+    (rw (c.decibels-2.ensures, c.after-level.ensures, c.decibels.ensures, c.from.ensures) at c.after-2.ensures)
+    (rw (c.whole-2.ensures, c.from-3.ensures, c.after-nd_filter.ensures, c.whole.ensures, c.from-2.ensures) at c.after-3.ensures)
     (rw c.whole-3.ensures at c.after-4.ensures)
     (rw c.whole-4.ensures at c.after-5.ensures)

@@ -5,7 +5,7 @@ use Rattle.canon_groups.proofs.lens_after.Goals as goal
 pub returns : goal.returns
 returns c =
     lens_raws _ _ _
-    (rw (c.tenths.ensures, c.u32_of.ensures) at c.after.ensures)
+    (rw (c.tenths.ensures, c.from.ensures) at c.after.ensures)
     (rw c.zoom.ensures at c.after-2.ensures)
     (rw c.aperture.ensures at c.after-3.ensures)
     (rw c.aperture-2.ensures at c.after-4.ensures)

@@ -7,4 +7,4 @@ returns c =
     shutter_raws _ _ _
     (rw c.quotient.ensures at c.after.ensures)
     (rw c.two_bits.ensures at c.after-2.ensures)
-    (rw (c.quotient-2.ensures, c.u16_of.ensures) at c.after-3.ensures)
+    (rw (c.quotient-2.ensures, c.from.ensures) at c.after-3.ensures)

@@ -1,6 +1,0 @@
--- `host_written::brine_put_length` hands on what the writer answers, and keeps what it wrote.
-use Rattle.host_written.proofs.Laws.{host_wrote}
-use Rattle.host_written.proofs.brine_put_length.Goals as goal
-
-pub returns : goal.returns
-returns c = host_wrote c.put_length-w.ensures _ c.answered.ensures.value c.answered.ensures.out_after
