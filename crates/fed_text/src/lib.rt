@@ -3,19 +3,20 @@
 // `refused N`.
 #![tactic(auto)]
 
-ghost use Rattle.std.specs.Prelude.{◌≡◌, [], ◌∷◌, ◌++◌, length};
+ghost use Rattle.std.specs.Prelude.{◌≡◌, [], ◌∷◌, ◌++◌, IfOk, OnErr};
 ghost use Rattle.steps.specs.Told.{number};
 ghost use Rattle.text.specs.Write.{Put};
 ghost use Rattle.klv_text.specs.Text.{record_text};
 ghost use Rattle.listing.specs.Listing.{count_line};
-ghost use Rattle.fed_states.specs.Close.{shut_told};
+ghost use Rattle.fed_states.specs.declared.State.{State};
+ghost use Rattle.fed_states.specs.Close.{close_told};
 ghost use Rattle.fed_bytes.specs.Feed.{feed_of};
-ghost use Rattle.fed_pieces.specs.Pieces.{all, records_of, end_of};
-ghost use Rattle.fed_text.specs.Lines.{piece_lines, again_line, refused_line, ending_line};
+ghost use Rattle.fed_pieces.specs.Pieces.{refused_as};
+ghost use Rattle.fed_text.specs.Lines.{Lists, again_line, refused_line, ending_line};
 
-use fed::{Answer, feed};
-use fed_pieces::refusal;
-use fed_states::{Ending, Shut, State};
+use fed::feed;
+use fed_pieces::admit;
+use fed_states::{FedError, Shut, State};
 use klv::Klv;
 use klv_text::put_record;
 use listing::put_count;
@@ -29,47 +30,35 @@ fn put_line(out: &mut [u8], at: usize, label: &[u8; 16], k: Klv, passed: usize) 
     put_byte(out, a, b'\n')
 }
 
-// The state behind a piece, how many records it had, the place after their lines, and the number by which it was refused, or 0.
+// The state behind a piece, how many records it had, and the place after their lines.
 #[derive(Clone, Copy)]
 pub struct Lines {
     pub state: State,
     pub records: usize,
     pub at: usize,
-    pub refusal: u32,
 }
 
-// Feeds all of a piece, and puts a line for each record.
-pub fn put_piece(out: &mut [u8], at: usize, st: State, piece: &[u8]) -> Lines
-    ensures refusal_value { result.refusal ≡ number (feed_of st piece.now) }
-    ensures state_value { result.state ≡ (end_of (all piece.now) st piece.now).state }
-    ensures records_value { result.records ≡ length (records_of (all piece.now) st piece.now) }
-    ensures put { Put (piece_lines st piece.now) out.old at out.new result.at }
+// Feeds all of a piece, and puts a line for each record; none where the piece is refused.
+pub fn put_piece(out: &mut [u8], at: usize, st: State, piece: &[u8]) -> Result<Lines, FedError>
+    ensures refusal { refused_as result ≡ number (feed_of st piece.now) }
+    ensures ok { IfOk result (Lists st piece.now out.old at out.new) }
+    ensures err { OnErr result (out.new ≡ out.old) }
 {
-    let no = refusal(st, piece.len());
-    if no != 0 {
-        return Lines {
-            state: st,
-            records: 0,
-            at,
-            refusal: no,
-        };
-    }
+    admit(st, piece.len())?;
     let mut s = st;
     let mut i = 0;
     let mut records = 0;
     let mut p = at;
     loop {
-        let f = feed(s, &piece[i..]);
+        let f = feed(s, &piece[i..]).unwrap();
         s = f.state;
         i += f.taken;
-        let a = f.answer;
-        let Answer::Record(k, passed) = a else {
-            return Lines {
+        let Some((k, passed)) = f.found else {
+            return Ok(Lines {
                 state: s,
                 records,
                 at: p,
-                refusal: 0,
-            };
+            });
         };
         let label = s.label;
         p = put_line(out, p, &label, k, passed);
@@ -98,20 +87,22 @@ fn put_again(out: &mut [u8], at: usize, v: usize, rest: usize) -> usize
 }
 
 // Puts what closing said.
-fn put_ending(out: &mut [u8], at: usize, s: Shut) -> usize
-    ensures { Put (ending_line (shut_told s)) out.old at out.new result }
+fn put_ending(out: &mut [u8], at: usize, s: Result<Shut, FedError>) -> usize
+    ensures { (st : State) → Put (ending_line (close_told st s)) out.old at out.new result }
 {
-    let e = s.ending;
-    match e {
-        Ending::Clean => put_all(out, at, b"clean\n"),
-        Ending::Again(v, rest) => put_again(out, at, v, rest),
-        Ending::Refused => put_refused(out, at, 5),
+    let closed = match s {
+        Ok(closed) => closed,
+        Err(e) => return put_refused(out, at, e.number()),
+    };
+    match closed.rest {
+        None => put_all(out, at, b"clean\n"),
+        Some(r) => put_again(out, at, r.from, r.end),
     }
 }
 
 // Puts the count of all records, and then what closing said.
-pub fn put_end(out: &mut [u8], at: usize, records: usize, s: Shut) -> usize
-    ensures { Put (count_line records ++ ending_line (shut_told s)) out.old at out.new result }
+pub fn put_end(out: &mut [u8], at: usize, records: usize, s: Result<Shut, FedError>) -> usize
+    ensures { (st : State) → Put (count_line records ++ ending_line (close_told st s)) out.old at out.new result }
 {
     let a = put_count(out, at, records);
     put_ending(out, a, s)

@@ -1,5 +1,5 @@
 -- The end of a walk that closing named. Assumes nothing.
-use Rattle.std.specs.Prelude.{Err, Ok, Result}
+use Rattle.std.specs.Prelude.{Option, Some, None, Err, Ok, Result}
 use Rattle.std.proofs.Common.{◌≡◌, ℕ, ◌+◌, ◌-◌, ◌^◌, ◌<◌, ◌≤◌, Bool, true, false, cond, not, ◌&&◌, ltb, refl, arith}
 use Rattle.steps.specs.Told.{found, refused}
 use Rattle.lengths.specs.declared.Field.{Field}
@@ -7,11 +7,9 @@ use Rattle.lengths.specs.declared.NoLength.{NoLength}
 use Rattle.lengths.specs.declared.NoLength.TheVariants.{Cut, Invalid}
 use Rattle.fed_states.specs.declared.State.{State}
 use Rattle.fed_states.specs.declared.Shut.{Shut}
-use Rattle.fed_states.specs.declared.Ending.{Ending}
-use Rattle.fed_states.specs.declared.Ending.TheVariants.{Clean, Again, Refused}
 use Rattle.fed_states.specs.State.{length_of, sound_of}
 use Rattle.fed_states.specs.declared.Rest.{Rest}
-use Rattle.fed_states.specs.Close.{ending_told, shut_told, ends_by, close_of}
+use Rattle.fed_states.specs.Close.{rest_told, ends_by, close_of}
 use Rattle.fed_states.proofs.Laws.{and_left, sound_tells, come}
 use Rattle.klvstream.specs.Named.{Named}
 
@@ -32,11 +30,9 @@ named_within st s r = closes (sound_of st && not (st.known && ltb (st.at + st.ha
     closes true x e = ended (and_left (sound_of st) _ x) (length_of st) refl e
     closes false x e = absurd (let z : ◌≡◌ {A = ℕ} 0 1 = cc in omega arith)
 
-pub named : (st : State) (s : Shut) → st.limit < 2 ^ 64 → shut_told s ≡ close_of st → Named s.ending
-unfolding Named
-named st s h = go s.ending
+pub named : (st : State) (s : Shut) → st.limit < 2 ^ 64 → rest_told s.state s.rest ≡ close_of st → Named s.rest
+named st s h = go s.rest
   where
-    go : (e : Ending) → ending_told s.state e ≡ close_of st → Named e
-    go (Again v n) x = omega (arith, named_within st s.state (record { from = v; end = n }) x)
-    go Clean x = tt
-    go Refused x = tt
+    go : (r : Option Rest) → rest_told s.state r ≡ close_of st → Named r
+    go (Some r) x = omega (arith, named_within st s.state r x)
+    go None x = tt

@@ -1,9 +1,6 @@
 -- The walk that closing named: its end, which is the end of what came, is a place.
-use Rattle.std.specs.Prelude.{◌+◌, ◌^◌, ◌<◌}
-use Rattle.fed_states.specs.declared.Ending.{Ending}
-use Rattle.fed_states.specs.declared.Ending.TheVariants.{Clean, Again, Refused}
+use Rattle.std.specs.Prelude.{◌+◌, ◌^◌, ◌<◌, Option, IfSome}
+use Rattle.fed_states.specs.declared.Rest.{Rest}
 
-unfoldable pub Named : Ending → Type 0
-Named (Again v rest) = v + rest < 2 ^ 64
-Named Clean = Unit {0}
-Named Refused = Unit {0}
+abbrev pub Named : Option Rest → Type 0
+Named rest = IfSome rest (λ r. r.from + r.end < 2 ^ 64)

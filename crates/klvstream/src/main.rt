@@ -8,12 +8,12 @@
 // start.
 #![tactic(auto)]
 
-ghost use Rattle.std.specs.Prelude.{◌≡◌, ◌+◌, ◌^◌, ◌<◌, ◌≤◌, length, take};
+ghost use Rattle.std.specs.Prelude.{◌≡◌, ◌+◌, ◌^◌, ◌<◌, ◌≤◌, length, take, IfOk};
 ghost use Rattle.io.specs.Counts.{IsPrefixLen};
 ghost use Rattle.fed_text.specs.Lines.{piece_lines};
 ghost use Rattle.klvstream.specs.Named.{Named};
 
-use fed_states::{Ending, Shut, State};
+use fed_states::{FedError, Rest, Shut, State};
 use fed_text::Lines;
 use offsets::offset_of;
 use std::fs;
@@ -84,17 +84,17 @@ struct Walk {
 enum Stop {
     // All that there is was read.
     End,
-    // A piece was refused, by this number.
-    Refused(u32),
+    // A piece was refused.
+    Refused(FedError),
     // The system refused to read or write.
     Failed,
 }
 
 // Puts the whole of a piece's lines at the start of out.
-fn put_whole(out: &mut [u8; ROOM], st: State, piece: &[u8]) -> Lines
+fn put_whole(out: &mut [u8; ROOM], st: State, piece: &[u8]) -> Result<Lines, FedError>
     requires { length piece.now ≤ 65536 }
-    ensures out_after { take result.at out.new ≡ piece_lines st piece.now }
-    ensures prefix_len { IsPrefixLen result.at out.new }
+    ensures out_after { IfOk result (λ l. take l.at out.new ≡ piece_lines st piece.now) }
+    ensures prefix_len { IfOk result (λ l. IsPrefixLen l.at out.new) }
 {
     fed_text::put_piece(out, 0, st, piece)
 }
@@ -103,7 +103,10 @@ fn put_whole(out: &mut [u8; ROOM], st: State, piece: &[u8]) -> Lines
 fn show(rt: &HostRuntime, w: &mut Walk, piece: &[u8], out: &mut [u8; ROOM]) -> ControlFlow<Stop>
     requires { length piece.now ≤ 65536 }
 {
-    let l = put_whole(out, w.state, piece);
+    let l = match put_whole(out, w.state, piece) {
+        Ok(l) => l,
+        Err(e) => return ControlFlow::Break(Stop::Refused(e)),
+    };
     if let Err(e) = rt.write_all(&out[..l.at]) {
         fail(rt.stderr(), b"standard output", &e);
         return ControlFlow::Break(Stop::Failed);
@@ -112,9 +115,6 @@ fn show(rt: &HostRuntime, w: &mut Walk, piece: &[u8], out: &mut [u8; ROOM]) -> C
         state: l.state,
         records: w.records.wrapping_add(l.records),
     };
-    if l.refusal != 0 {
-        return ControlFlow::Break(Stop::Refused(l.refusal));
-    }
     ControlFlow::Continue(())
 }
 
@@ -160,7 +160,7 @@ fn stream<R: Read>(
 }
 
 // Puts the count and what closing said at the start of out.
-fn put_end(out: &mut [u8; ROOM], records: usize, c: Shut) -> usize
+fn put_end(out: &mut [u8; ROOM], records: usize, c: Result<Shut, FedError>) -> usize
     ensures { IsPrefixLen result out.new }
 {
     fed_text::put_end(out, 0, records, c)
@@ -220,26 +220,29 @@ fn wound_back(rt: &HostRuntime, path: &str, start: Option<usize>, v: usize) -> O
 }
 
 // The walk that closing named, from the value's start v on to the end of what came. Its places are those of the whole.
-fn onward(v: usize, rest: usize) -> State
-    requires { v + rest < 2 ^ 64 }
+fn onward(rest: Rest) -> State
+    requires { rest.from + rest.end < 2 ^ 64 }
 {
-    let end = fed_states::open_end(v + rest);
+    let end = fed_states::open_end(rest.from + rest.end);
     let label = end.label;
-    fed_states::gone_on(end, v, label)
+    fed_states::gone_on(end, rest.from, label)
 }
 
-// What closing says of a walk that read all there is.
-fn ending(state: State) -> Ending
+// The rest that closing names of a walk that read all there is.
+fn rest_of(state: State) -> Option<Rest>
     ensures { Named result }
 {
-    fed_states::close(state).ending
+    let Ok(closed) = fed_states::close(state) else {
+        return None;
+    };
+    closed.rest
 }
 
 // Writes the last lines of a walk, but where the system failed.
 fn finish(rt: &HostRuntime, w: Walk, stop: Stop, out: &mut [u8; ROOM]) {
     let n = match stop {
         Stop::Failed => return,
-        Stop::Refused(number) => put_refusal(out, w.records, number),
+        Stop::Refused(e) => put_refusal(out, w.records, e.number()),
         Stop::End => put_end(out, w.records, fed_states::close(w.state)),
     };
     let _ = rt.write_all(&out[..n]);
@@ -258,9 +261,9 @@ fn list<R: Read>(
     let mut w = Walk { state, records: 0 };
     let mut stop = stream(rt, &mut w, false, input, buf, out);
     if stop == Stop::End {
-        if let Ending::Again(v, rest) = ending(w.state) {
-            if let Some(mut again) = wound_back(rt, path, start, v) {
-                w.state = onward(v, rest);
+        if let Some(rest) = rest_of(w.state) {
+            if let Some(mut again) = wound_back(rt, path, start, rest.from) {
+                w.state = onward(rest);
                 stop = stream(rt, &mut w, true, &mut again, buf, out);
             }
         }

@@ -3,4 +3,4 @@ use Rattle.text.proofs.Putting.{◌▹◌}
 use Rattle.fed_text.proofs.put_end.Goals as goal
 
 pub returns : goal.returns
-returns c = c.put_count-a.ensures ▹ c.put_ending.ensures
+returns c = λ st. c.put_count-a.ensures ▹ c.put_ending.ensures st
