@@ -14,7 +14,7 @@ use std::fs::File;
 use std::io::{Error, Print, Seek, SeekFrom, Stderr};
 use std::rt::{Env, Files, HostRuntime};
 use streams::{put_failure, word};
-use takes::{Difference, Met, Side, Takes};
+use takes::{Difference, Stop, Takes};
 use tapes::Tape;
 
 // Whether the program was given an i-th word.
@@ -97,18 +97,17 @@ struct Onward {
 }
 
 // Shows what differs at a number.
-fn meet(rt: &HostRuntime, t: Takes, x: Side, y: Side) -> Onward {
-    let m = takes::meet(t, x, y);
-    match m {
-        Met::Same(u) => Onward {
+fn meet(rt: &HostRuntime, t: Takes, x: Option<Stop>, y: Option<Stop>) -> Onward {
+    match takes::meet(t, x, y) {
+        Some((None, u)) => Onward {
             takes: u,
             goes: true,
         },
-        Met::Differs(d, u) => Onward {
+        Some((Some(d), u)) => Onward {
             takes: u,
             goes: show(rt, d),
         },
-        Met::Over => Onward {
+        None => Onward {
             takes: t,
             goes: false,
         },

@@ -8,7 +8,6 @@ ghost use Rattle.io.specs.Counts.{IsPrefixLen};
 ghost use Rattle.tapes.specs.Frames.{read_as};
 ghost use Rattle.tapes.specs.Tapes.{unread_of, place_of, needed_of, no_frame, ReadBy, Finds};
 
-use arri_values::Values;
 use fed_frames::{FrameAnswer, FrameState};
 use fed_states::State;
 use frame_walks::{Camera, FrameElement};
@@ -18,7 +17,7 @@ use std::io::{Error, Print, Stderr};
 use std::os::unix::fs::FileExt;
 use streams::put_failure;
 use take_frames::Recorded;
-use takes::{Side, Stop};
+use takes::Stop;
 
 // How far the reading of a file has come.
 #[derive(Clone, Copy)]
@@ -231,7 +230,7 @@ fn recorded(f: FrameElement, label: &[u8; 16], element: &[u8]) -> Recorded
     if f.overlong {
         return Recorded {
             overlong: true,
-            values: Values::Nothing,
+            values: None,
         };
     }
     Recorded {
@@ -244,7 +243,7 @@ fn recorded(f: FrameElement, label: &[u8; 16], element: &[u8]) -> Recorded
 #[derive(Drop)]
 pub struct Found {
     pub tape: Tape,
-    pub side: Side,
+    pub side: Option<Stop>,
     pub failed: bool,
 }
 
@@ -254,7 +253,7 @@ fn none(tape: Tape, failed: bool) -> Found
 {
     Found {
         tape,
-        side: Side::Over,
+        side: None,
         failed,
     }
 }
@@ -290,7 +289,7 @@ fn read(err: Stderr, t: Tape, f: FrameElement) -> Found
     let recorded = recorded(f, &label, &element[..have]);
     Found {
         tape: t,
-        side: Side::Frame(Stop {
+        side: Some(Stop {
             recorded,
             next: place(s),
         }),

@@ -1,5 +1,5 @@
 -- `arri_alexa35::of_alexa35` meets its contract. The loop's invariant: the sets from the cursor on leave of the values so far what the whole element leaves.
-use Prim.Native.Nat.{ℕ, ◌-◌}
+use Prim.Native.Nat.{ℕ}
 use mathlib.Core.List.{List}
 use mathlib.Core.Bool.{true}
 use mathlib.Core.Path.{◌≡◌, sym, ap, ◌∙◌}

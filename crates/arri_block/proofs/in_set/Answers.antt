@@ -1,5 +1,4 @@
 -- `arri_block::in_set` meets its contract. The loop's invariant: the items from the cursor on give what the whole set gives.
-use Prim.Native.Nat.{◌-◌}
 use mathlib.Core.Bool.{false}
 use mathlib.Core.Path.{◌≡◌, refl, sym, ◌∙◌}
 use native.Mathlib.Omega.{arith}
