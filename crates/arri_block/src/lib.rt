@@ -8,7 +8,7 @@ ghost use Rattle.std.specs.Prelude.{◌≡◌, ◌+◌, ◌≤◌, ◌^◌, leng
 ghost use Rattle.klv.specs.Item.{item};
 ghost use Rattle.arri_block.specs.Block.{placed_at, first_bytes, in_set, in_run_item, in_run, in_element_item, block_of, bytes_of, Ends};
 
-use items::{Coding, Local, LocalNext, Run, RunNext};
+use items::{Coding, Local, Run};
 use klv::Klv;
 use parts::{one_at, two_at};
 
@@ -38,17 +38,14 @@ fn first_bytes(k: Klv) -> Option<usize>
 fn in_set(s: &[u8]) -> Option<usize>
     ensures { result ≡ in_set s.now }
 {
-    let mut at = 0;
-    loop {
-        let step = Local { at }.step(s, Coding::TWO_TWO);
-        let LocalNext::Item(k, next) = step else {
-            return None;
-        };
+    let mut items = Local { at: 0 };
+    while let Some((k, next)) = items.step(s, Coding::TWO_TWO) {
         if two_at(s, k.at) == 0x8200 {
             return first_bytes(k);
         }
-        at = next.at;
+        items = next;
     }
+    None
 }
 
 // The block that a run's item gives, where it is a lens unit set. The byte at 7 doesn't count, as in `same_label`; `agree_but` itself is
@@ -70,17 +67,14 @@ fn in_run_item(s: &[u8], k: Klv) -> Option<usize>
 fn in_run(s: &[u8]) -> Option<usize>
     ensures { result ≡ in_run s.now }
 {
-    let mut at = 0;
-    loop {
-        let step = Run { at }.step(s);
-        let RunNext::Item(k, next) = step else {
-            return None;
-        };
+    let mut items = Run { at: 0 };
+    while let Some((k, next)) = items.step(s) {
         if let Some(at) = in_run_item(s, k) {
             return Some(at);
         }
-        at = next.at;
+        items = next;
     }
+    None
 }
 
 // The block that an element's item gives, where it is an 88h one.
@@ -101,17 +95,14 @@ fn in_element_item(s: &[u8], k: Klv) -> Option<usize>
 pub fn find(element: &[u8]) -> Option<usize>
     ensures { result ≡ block_of element.now }
 {
-    let mut at = 0;
-    loop {
-        let step = Local { at }.step(element, Coding::ONE_TWO);
-        let LocalNext::Item(k, next) = step else {
-            return None;
-        };
+    let mut items = Local { at: 0 };
+    while let Some((k, next)) = items.step(element, Coding::ONE_TWO) {
         if let Some(at) = in_element_item(element, k) {
             return Some(at);
         }
-        at = next.at;
+        items = next;
     }
+    None
 }
 
 // The block's bytes, a part of the element; none where there is no block.

@@ -1,4 +1,5 @@
 -- What bytes that follow leave as it is: the rules, where they do not wait, and a record's label. Assumes nothing.
+use Rattle.std.specs.Prelude.{Ok}
 use Prim.Native.Nat.{ℕ, ◌+◌, ◌-◌, ◌≤◌}
 use mathlib.Core.Path.{◌≡◌, sym, ◌∙◌}
 use mathlib.Core.List.{List, ◌++◌}
@@ -10,7 +11,6 @@ use Rattle.parts.proofs.Spans.{followed}
 use Rattle.labels.specs.Label.{key_at}
 use Rattle.labels.proofs.Laws.{key-same}
 use Rattle.lengths.specs.declared.Field.{Field}
-use Rattle.lengths.specs.declared.Length.TheVariants.{Is}
 use Rattle.lengths.specs.Length.{length_at}
 use Rattle.lengths.proofs.Laws.{taken}
 use Rattle.lengths.proofs.Spans.{length-same, none-same}
@@ -25,7 +25,7 @@ module _ (a x : List ℕ) where
   pub key-kept : (p : ℕ) (b : Bool) → p + 4 ≤ length a → key_at a p ≡ b → key_at (a ++ x) p ≡ b
   key-kept p b h k = key-same a (a ++ x) p (followed a x p 4 h) ∙ k
 
-  pub length-kept : (at : ℕ) (f : Field) → length_at a at ≡ Is f → length_at (a ++ x) at ≡ Is f
+  pub length-kept : (at : ℕ) (f : Field) → length_at a at ≡ Ok f → length_at (a ++ x) at ≡ Ok f
   length-kept at f l = length-same a (a ++ x) at f l (followed a x at f.size (taken a at f l).there)
 
   -- a label that has arrived

@@ -10,8 +10,7 @@ use borrow.Author.Tests.{le-ltb, lt-ltb}
 use lib.ListN.{length, length-append}
 use Rattle.io.specs.Digits.{hex_digit_ascii}
 use Rattle.text.specs.Write.{decimal_up_to, decimal_of}
-use Rattle.decimals.specs.declared.Decimal.{Decimal}
-use Rattle.decimals.specs.declared.Decimal.TheVariants.{Is, Not}
+use Rattle.std.specs.Prelude.{Option, Some, None}
 use Rattle.decimals.specs.Decimal.{digit_more, onward, digits_from}
 use Rattle.decimals.specs.Back.{ReadsBack}
 use Rattle.decimals.proofs.Laws.{digit_is, number-some}
@@ -21,27 +20,27 @@ last : (l : List ℕ) (n d : ℕ) → digits_from n (l ++ (d ∷ [])) ≡ onward
 unfolding digits_from onward
 last [] n d = go (digit_more n d)
   where
-    go : (x : Decimal) → onward (λ m. digits_from m []) x ≡ x
-    go (Is m) = refl
-    go Not = refl
+    go : (x : Option ℕ) → onward (λ m. digits_from m []) x ≡ x
+    go (Some m) = refl
+    go None = refl
 last (c ∷ l) n d = go (digit_more n c) (λ m. last l m d)
   where
-    go : (x : Decimal) → ((m : ℕ) → digits_from m (l ++ (d ∷ [])) ≡ onward (λ m. digit_more m d) (digits_from m l))
+    go : (x : Option ℕ) → ((m : ℕ) → digits_from m (l ++ (d ∷ [])) ≡ onward (λ m. digit_more m d) (digits_from m l))
         → onward (λ m. digits_from m (l ++ (d ∷ []))) x ≡ onward (λ m. digit_more m d) (onward (λ m. digits_from m l) x)
-    go (Is m) ih = ih m
-    go Not ih = refl
+    go (Some m) ih = ih m
+    go None ih = refl
 
 -- a digit's byte
-digit_of : (n r : ℕ) → r < 10 → n * 10 + r < 2 ^ 64 → digit_more n (hex_digit_ascii r) ≡ Is (n * 10 + r)
+digit_of : (n r : ℕ) → r < 10 → n * 10 + r < 2 ^ 64 → digit_more n (hex_digit_ascii r) ≡ Some (n * 10 + r)
 digit_of n r h m =
     let e : 48 + r - 48 ≡ r = omega arith in
     rw (lt-ltb r 10 h) (sym (rw e at (digit_is n (48 + r) (omega arith) (omega arith) (omega arith))))
 
-alone : (n : ℕ) → n < 10 → digits_from 0 (hex_digit_ascii n ∷ []) ≡ Is n
+alone : (n : ℕ) → n < 10 → digits_from 0 (hex_digit_ascii n ∷ []) ≡ Some n
 unfolding digits_from onward
 alone n h = let e : 0 * 10 + n ≡ n = omega arith in rw (digit_of 0 n h (omega arith), e)
 
-up_to : (k n : ℕ) → n < 10 ^ suc k → n < 2 ^ 64 → digits_from 0 (decimal_up_to k n) ≡ Is n
+up_to : (k n : ℕ) → n < 10 ^ suc k → n < 2 ^ 64 → digits_from 0 (decimal_up_to k n) ≡ Some n
 unfolding decimal_up_to onward
 up_to zero n h m = alone n (omega (arith, h))
 up_to (suc k) n h m =

@@ -4,47 +4,26 @@
 ghost use Rattle.std.specs.Prelude.{◌≡◌};
 ghost use Rattle.decimals.specs.Decimal.{digit_more, number_in};
 
-// What a word says.
-#[derive(Clone, Copy)]
-pub enum Decimal {
-    Is(u64),
-    // No digits, another byte among them, or more than 64 bits hold.
-    Not,
-}
-
-// A number with one digit more behind it.
-fn digit_more(n: u64, d: u8) -> Decimal
+// A number with one digit more behind it: none for a byte that is no digit, and where more than 64 bits hold.
+fn digit_more(n: u64, d: u8) -> Option<u64>
     ensures { result ≡ digit_more n d }
 {
-    if d < 48 {
-        return Decimal::Not;
+    if !d.is_ascii_digit() {
+        return None;
     }
-    if 57 < d {
-        return Decimal::Not;
-    }
-    let v = (d - 48) as u64;
-    if (18446744073709551615 - v) / 10 < n {
-        return Decimal::Not;
-    }
-    Decimal::Is(n * 10 + v)
+    n.checked_mul(10)?.checked_add(u64::from(d - b'0'))
 }
 
-// The number that the digits of s are.
-pub fn number(s: &[u8]) -> Decimal
+// The number that the digits of s are: none without digits, for another byte among them, and where more than 64 bits hold.
+pub fn number(s: &[u8]) -> Option<u64>
     ensures { result ≡ number_in s.now }
 {
-    if s.len() == 0 {
-        return Decimal::Not;
+    if s.is_empty() {
+        return None;
     }
     let mut n = 0;
-    let mut i = 0;
-    while i < s.len() {
-        let m = digit_more(n, s[i]);
-        let Decimal::Is(k) = m else {
-            return Decimal::Not;
-        };
-        n = k;
-        i += 1;
+    for d in s {
+        n = digit_more(n, *d)?;
     }
-    Decimal::Is(n)
+    Some(n)
 }

@@ -1,13 +1,11 @@
 -- Two answers that say the same are the same. Assumes nothing.
-use Prim.Native.Nat.{ℕ}
-use mathlib.Core.Path.{◌≡◌, refl}
-use native.Mathlib.Omega.{arith}
-use Rattle.descriptor.specs.declared.Answer.{Answer}
-use Rattle.descriptor.specs.declared.Answer.TheVariants as answer
+use Rattle.std.specs.Prelude.{◌≡◌, refl, Result, Ok, Err}
+use Rattle.descriptor.specs.declared.Descriptor.{Descriptor}
+use Rattle.descriptor.specs.declared.ItemPastSet.{ItemPastSet}
 use Rattle.descriptor.specs.Descriptor.{told}
 
-pub told_once : (a b : Answer) → told a ≡ told b → a ≡ b
-told_once (answer.Is c) (answer.Is d) e = let x : c ≡ d = cc in λ i. answer.Is (x i)
-told_once (answer.Is c) answer.Refused e = let z : ◌≡◌ {A = ℕ} 0 1 = cc in absurd (omega arith)
-told_once answer.Refused (answer.Is d) e = let z : ◌≡◌ {A = ℕ} 0 1 = cc in absurd (omega arith)
-told_once answer.Refused answer.Refused e = refl
+pub told_once : (a b : Result Descriptor ItemPastSet) → told a ≡ told b → a ≡ b
+told_once (Ok c) (Ok d) e = let x : c ≡ d = cc in λ i. Ok (x i)
+told_once (Ok c) (Err d) e = cc
+told_once (Err c) (Ok d) e = cc
+told_once (Err c) (Err d) e = refl

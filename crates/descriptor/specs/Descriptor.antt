@@ -1,11 +1,10 @@
 -- What a descriptor set says, by the numbers of docs/RULES.md, "What a call can say".
-use Rattle.std.specs.Prelude.{ℕ, ◌+◌, List, false, cond, length, leb}
+use Rattle.std.specs.Prelude.{ℕ, ◌+◌, List, false, cond, length, leb, Result, Ok, Err}
 use Rattle.steps.specs.Listed.{end_from}
 use Rattle.items.specs.Items.{item_step, items_of}
 use Rattle.items.specs.After.{after}
 use Rattle.descriptor.specs.declared.Descriptor.{Descriptor}
-use Rattle.descriptor.specs.declared.Answer.{Answer}
-use Rattle.descriptor.specs.declared.Answer.TheVariants as answer
+use Rattle.descriptor.specs.declared.ItemPastSet.{ItemPastSet}
 use Rattle.descriptor.specs.Fields.{fields_on, empty}
 
 -- the table's number is 0 with fields, and else a refusal's
@@ -13,9 +12,9 @@ pub data Said : Type 0 where
   done : Descriptor → Said
   refused : ℕ → Said
 
-abbrev pub told : Answer → Said
-told (answer.Is d) = done d
-told answer.Refused = refused 4
+abbrev pub told : Result Descriptor ItemPastSet → Said
+told (Ok d) = done d
+told (Err e) = refused 4
 
 -- where the items end: tags and lengths of 2 bytes
 abbrev pub items_end : List ℕ → ℕ

@@ -1,14 +1,10 @@
 -- The items of a descriptor set: docs/RULES.md, "Tables inside values", Descriptor items.
-use Rattle.std.specs.Prelude.{ℕ, ◌+◌, List, Bool, cond, ◌&&◌, leb, eqb, Float}
+use Rattle.std.specs.Prelude.{ℕ, ◌+◌, List, Bool, cond, ◌&&◌, leb, eqb, Float, Option, Some, None}
 use Rattle.std.specs.Float.Ieee.Scale.{finite}
 use Rattle.parts.specs.Number.{number_at, four_at}
 use Rattle.floats.specs.Quotients.{ratio}
 use Rattle.klv.specs.declared.Klv.{Klv}
 use Rattle.klv.specs.Item.{Item, tag_of}
-use Rattle.descriptor.specs.declared.Whole.{Whole}
-use Rattle.descriptor.specs.declared.Whole.TheVariants as whole
-use Rattle.descriptor.specs.declared.Rate.{Rate}
-use Rattle.descriptor.specs.declared.Rate.TheVariants as rate
 use Rattle.descriptor.specs.declared.Area.{Area}
 use Rattle.descriptor.specs.declared.Descriptor.{Descriptor}
 
@@ -17,15 +13,15 @@ unfoldable pub holds : ℕ → Klv → ℕ → ℕ → Bool
 holds tag k field n = eqb tag field && (leb k.len 8 && leb n k.len)
 
 -- a field of n bytes after an item: a longer one gives its first bytes
-unfoldable pub whole_after : List ℕ → ℕ → Klv → ℕ → ℕ → Whole → Whole
-whole_after s tag k field n old = cond (holds tag k field n) (whole.Is (number_at s k.value n)) old
+unfoldable pub whole_after : List ℕ → ℕ → Klv → ℕ → ℕ → Option ℕ → Option ℕ
+whole_after s tag k field n old = cond (holds tag k field n) (Some (number_at s k.value n)) old
 
 -- a rate that isn't finite is nothing
-unfoldable pub finite_rate : Float → Rate
-finite_rate x = cond (finite x) (rate.Is x) rate.Nothing
+unfoldable pub finite_rate : Float → Option Float
+finite_rate x = cond (finite x) (Some x) None
 
 -- a rate after an item: the f64 quotient of two numbers of 4 bytes, which replaces an earlier one
-unfoldable pub rate_after : List ℕ → ℕ → Klv → ℕ → Rate → Rate
+unfoldable pub rate_after : List ℕ → ℕ → Klv → ℕ → Option Float → Option Float
 rate_after s tag k field old =
     cond (holds tag k field 8) (finite_rate (ratio (four_at s k.value) (four_at s (k.value + 4)))) old
 
@@ -57,22 +53,22 @@ fields_after s tag k d = record {
 
 -- before the first item
 abbrev pub no_area : Area
-no_area = record { height = whole.Nothing; width = whole.Nothing; x_offset = whole.Nothing; y_offset = whole.Nothing }
+no_area = record { height = None; width = None; x_offset = None; y_offset = None }
 
 abbrev pub empty : Descriptor
 empty = record {
-  duration = whole.Nothing;
-  timecode_base = whole.Nothing;
-  start_timecode = whole.Nothing;
-  drop_frame = whole.Nothing;
-  sample_rate = rate.Nothing;
-  container_duration = whole.Nothing;
-  stored_height = whole.Nothing;
-  stored_width = whole.Nothing;
+  duration = None;
+  timecode_base = None;
+  start_timecode = None;
+  drop_frame = None;
+  sample_rate = None;
+  container_duration = None;
+  stored_height = None;
+  stored_width = None;
   sampled = no_area;
   display = no_area;
-  aspect_ratio = rate.Nothing;
-  color_range = whole.Nothing;
+  aspect_ratio = None;
+  color_range = None;
 }
 
 -- after an item of the set

@@ -1,4 +1,5 @@
 -- What a step of the arriving walk over the rest of a piece says of the bytes one by one. Assumes nothing.
+use Rattle.std.specs.Prelude.{Result, Ok, IsOk}
 use Prim.Native.Nat.{ℕ, ◌+◌, ◌-◌, ◌≤◌}
 use mathlib.Core.Path.{◌≡◌, sym, ap, ◌∙◌}
 use mathlib.Core.List.{List}
@@ -13,11 +14,13 @@ use Rattle.klv.specs.declared.Klv.{Klv}
 use Rattle.klv.specs.Item.{past, Item, item}
 use Rattle.walk.specs.declared.Walked.{Walked}
 use Rattle.walk.specs.declared.Cursor.{Cursor}
+use Rattle.walk.specs.declared.Step.{Step}
 use Rattle.walk.specs.declared.Step.TheVariants as step
+use Rattle.walk.specs.declared.WalkError.{WalkError}
 use Rattle.walk.specs.Walk.{walked, arriving_after, arriving_by, stepped, arriving_step}
 use Rattle.walk.specs.Passed.{arriving_passing}
 use Rattle.walk.specs.Told.{told}
-use Rattle.walk.proofs.Answers.{arriving-within, not-past_limit, passing-found, passing-nothing, passing_never}
+use Rattle.walk.proofs.Answers.{arriving-within, arrive-ok, passing-found, passing-nothing}
 use Rattle.fed_states.specs.declared.State.{State}
 use Rattle.fed_states.specs.State.{sought}
 use Rattle.fed_bytes.specs.Feed.{took, eats}
@@ -61,7 +64,7 @@ module _ (st : State) (piece : List ℕ) (i : ℕ) (h : i ≤ length piece) (fit
     pub ends : q ≡ past k
     pub is : told_at st here tail i k ≡ eats (sought st here 0) (drop i piece) i
 
-  pub arrived_record : (k : Klv) (m : ℕ) (c : Cursor) → told 2 tail (cursor 0 0) (step.Record k m c) ≡ arriving_passing (st.limit - here) tail (cursor 0 0) → Got k c.at
+  pub arrived_record : (k : Klv) (m : ℕ) (c : Cursor) → told tail (cursor 0 0) (Ok (step.Record k m c)) ≡ arriving_passing (st.limit - here) tail (cursor 0 0) → Got k c.at
   unfolding arriving_after
   arrived_record k n c e =
       go (walked (st.limit - here) tail (length tail) 0) (leads st here tail i within 0 (omega arith))
@@ -87,7 +90,7 @@ module _ (st : State) (piece : List ℕ) (i : ℕ) (h : i ≤ length piece) (fit
     pub goes : eats (sought st (here + q) 0) (drop (i + q) piece) (i + q) ≡ eats (sought st here 0) (drop i piece) i
     pub is : nothing (took (kept_from st here tail q) (length piece)) ≡ eats (sought st here 0) (drop i piece) i
 
-  pub arrived-waits : (c : Cursor) → told 2 tail (cursor 0 0) (step.Rests c) ≡ arriving_passing (st.limit - here) tail (cursor 0 0) → Rests c.at
+  pub arrived-waits : (c : Cursor) → told tail (cursor 0 0) (Ok (step.Rests c)) ≡ arriving_passing (st.limit - here) tail (cursor 0 0) → Rests c.at
   unfolding arriving_after
   arrived-waits c e =
       go (walked (st.limit - here) tail (length tail) 0) (leads st here tail i within 0 (omega arith))
@@ -105,5 +108,6 @@ module _ (st : State) (piece : List ℕ) (i : ℕ) (h : i ≤ length piece) (fit
       go w (stops_at q a t u) e = at q (cc) a t u
       go w (loses_at q a t u) e = at (wait_from tail q) (cc) a t u
 
-  pub arrived_never : told 2 tail (cursor 0 0) step.Refused ≡ arriving_passing (st.limit - here) tail (cursor 0 0) → ⊥
-  arrived_never e = passing_never (cursor 0 0) (arriving_step (st.limit - here) tail 0) (not-past_limit (st.limit - here) tail 0 (omega (arith, within))) 2 (cursor 0 0) e
+  -- the step has an answer
+  pub arrived-ok : (r : Result Step WalkError) → told tail (cursor 0 0) r ≡ arriving_passing (st.limit - here) tail (cursor 0 0) → IsOk r
+  arrived-ok r e = arrive-ok (st.limit - here) tail (cursor 0 0) r (omega (arith, within)) e

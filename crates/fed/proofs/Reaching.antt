@@ -1,17 +1,16 @@
 -- What a piece comes to that is taken up to a record, or to where a search starts. Assumes nothing.
+use Rattle.std.specs.Prelude.{Option, Some, None, is_some}
 use Prim.Native.Nat.{ℕ, suc, ◌+◌, ◌-◌, ◌≤◌, ◌<◌}
 use mathlib.Core.Path.{◌≡◌, refl, sym, ap, ◌∙◌}
-use mathlib.Core.Bool.{Bool, true, false, cond}
+use mathlib.Core.Bool.{Bool, true, false, cond, true≢false, false≢true}
 use mathlib.Core.List.{List, [], ◌∷◌}
-use mathlib.Core.Logic.{by_cases, ⊎_elim}
+use mathlib.Core.Logic.{by_cases}
 use native.Mathlib.Numerals.{add-one}
 use native.Mathlib.Omega.{arith}
 use native.Mathlib.Decide.{dec_lt}
 use borrow.Author.Tests.{le-ltb, lt-ltb, le-leb, lt-leb}
 use lib.ListN.{length, get_or, drop, length-drop}
 use lib.Seq.{drop-cons}
-use types.Run.{OneOf}
-use denote.Enum.Declared.{tag_of}
 use Rattle.steps.specs.Told.{ToldAt, found, nothing, refused}
 use Rattle.klv.specs.declared.Klv.{Klv}
 use Rattle.klv.specs.Item.{Item}
@@ -23,14 +22,11 @@ use Rattle.fed_bytes.specs.Eat.{behind, eat_of}
 use Rattle.fed_bytes.specs.Feed.{Taken, took, after, up_to, eats, feed_of}
 use Rattle.fed_bytes.specs.Fill.{kept_from}
 use Rattle.fed_bytes.proofs.Laws.{Turned, cut, none, whole, waits, late, Ate, seeks, labels, turns, ate, Room, eat_room, takes_none, takes_same, feed_closed, feed_past, feed_eats}
-use Rattle.fed.specs.declared.Answer.{Answer}
-use Rattle.fed.specs.declared.Answer.TheVariants.{Nothing, Record, TooMuch, Closed}
 use Rattle.fed.specs.declared.Fed.{Fed}
-use Rattle.fed.specs.Told.{answer_told, fed_told}
+use Rattle.fed.specs.Told.{found_told, fed_told}
 use Rattle.fed.specs.Parts.{starts_of, reaches, reach_of, rest_of}
 use Rattle.fed.proofs.Laws.{told-nothing}
 use Rattle.fed.proofs.Starting.{starts-eats}
-use Rattle.fed.specs.contracts.Answer.{the_type}
 
 -- what a piece gives from where an answer that is neither a record nor a refusal leaves it
 unfoldable pub resumed : List ℕ → ToldAt Taken (Passed Item) → ToldAt Taken (Passed Item)
@@ -51,7 +47,7 @@ pub record Searching (st : State) (piece : List ℕ) (s : State) (i : ℕ) : Typ
 -- a piece taken up to a record, or to where a search starts
 pub record Reached (st : State) (piece : List ℕ) (r : Fed) : Type 0 where
   pub goes : resumed piece (fed_told r) ≡ feed_of st piece
-  pub searching : r.answer ≡ Nothing → r.taken < length piece → Searching st piece r.state r.taken
+  pub searching : r.found ≡ None → r.taken < length piece → Searching st piece r.state r.taken
 
 -- The definition's cases
 module _ (st : State) (piece : List ℕ) where
@@ -125,8 +121,8 @@ module _ (limit : ℕ) (piece : List ℕ) (all : ToldAt Taken (Passed Item)) whe
 
 -- An answer that is the definition's: feeding goes on from there as it does
 module _ (st : State) (piece : List ℕ) (r : Fed) (e : fed_told r ≡ reach_of st piece) where
-  silent : r.answer ≡ Nothing → nothing (took r.state r.taken) ≡ reach_of st piece
-  silent y = ap (answer_told r.state.label (took r.state r.taken)) (sym y) ∙ e
+  silent : r.found ≡ None → nothing (took r.state r.taken) ≡ reach_of st piece
+  silent y = ap (found_told r.state.label (took r.state r.taken)) (sym y) ∙ e
 
   refuses : (n : ℕ) → reach_of st piece ≡ refused n (took st 0) → feed_of st piece ≡ refused n (took st 0) → Reached st piece r
   unfolding resumed
@@ -164,7 +160,7 @@ module _ (st : State) (piece : List ℕ) (r : Fed) (e : fed_told r ≡ reach_of 
           searching = λ a h. absurd (let w = silent a ∙ y in let z : ◌≡◌ {A = ℕ} 0 1 = cc in omega arith);
         }
     stopped t (rests u i g v b x) y =
-        let w = told-nothing r.state.label r.answer (took r.state r.taken) (took u i) (e ∙ y) in
+        let w = told-nothing r.state.label r.found (took r.state r.taken) (took u i) (e ∙ y) in
         let p : r.state ≡ u = ap (λ (c : Taken). c.state) w in
         let q : r.taken ≡ i = ap (λ (c : Taken). c.taken) w in
         record { goes = ap (resumed piece) (e ∙ y) ∙ x ∙ sym fed; searching = λ a h. rw (p, q) (there u i (rw q at h) g v (b (rw q at h)) x) }
@@ -182,39 +178,51 @@ module _ (st : State) (piece : List ℕ) (r : Fed) (e : fed_told r ≡ reach_of 
       go true s =
           by_cases (dec_lt (st.limit - (st.at + st.have)) (length piece)) (λ h. refuses 2 (reach_past st piece s h) (feed_past st piece s h)) (λ h. within s (omega arith))
 
+-- a refusal is the whole call's
+module _ (st : State) (piece : List ℕ) where
+  never : (t : ToldAt Taken (Passed Item)) → Stops st.limit piece (eats st piece 0) t → (n : ℕ) (c : Taken) → refused n c ≡ t → ⊥
+  never t (full a d x) n c e = let z : ◌≡◌ {A = ℕ} 0 1 = cc in omega arith
+  never t (rests s i g v b x) n c e = let z : ◌≡◌ {A = ℕ} 0 1 = cc in omega arith
+
+  pub reach_refuses : (n : ℕ) → refused n (took st 0) ≡ reach_of st piece → refused n (took st 0) ≡ feed_of st piece
+  reach_refuses n e = go (sound_of st) refl
+    where
+      go : (x : Bool) → sound_of st ≡ x → refused n (took st 0) ≡ feed_of st piece
+      go false s = e ∙ reach_closed st piece s ∙ sym (feed_closed st piece s)
+      go true s =
+          by_cases (dec_lt (st.limit - (st.at + st.have)) (length piece))
+          (λ h. e ∙ reach_past st piece s h ∙ sym (feed_past st piece s h))
+          (λ h. absurd (never (reaches st piece 0)
+          (stops st.limit piece (eats st piece 0) piece 0 st refl (record { same = refl; fits = omega (arith, (sound_tells st s).within) }) (sound_tells st s).alive refl)
+          n (took st 0) (e ∙ reach-in st piece s (omega arith))))
+
+pub is-none : {A : Type 0} (a : Option A) → is_some a ≡ false → a ≡ None
+is-none (Some x) e = absurd (true≢false e)
+is-none None e = refl
+
 -- an answer that takes a piece no further
 module _ (piece : List ℕ) (s : State) (n : ℕ) where
-  pub resumed_end : length piece ≤ n → (a : Answer) → a ≡ Nothing → resumed piece (answer_told s.label (took s n) a) ≡ answer_told s.label (took s n) a
+  pub resumed_end : length piece ≤ n → (a : Option (Klv × ℕ)) → is_some a ≡ false → resumed piece (found_told s.label (took s n) a) ≡ found_told s.label (took s n) a
   unfolding resumed
-  resumed_end h a e = rw e (takes_none s piece n n h)
+  resumed_end h a e = rw (is-none a e) (takes_none s piece n n h)
 
-  pub resumed_told : (a : Answer) → OneOf (1 ∷ 2 ∷ 3 ∷ []) (tag_of the_type a) → resumed piece (answer_told s.label (took s n) a) ≡ answer_told s.label (took s n) a
+  pub resumed_told : (a : Option (Klv × ℕ)) → is_some a ≡ true → resumed piece (found_told s.label (took s n) a) ≡ found_told s.label (took s n) a
   unfolding resumed
-  resumed_told Nothing o = absurd (⊎_elim (λ e. omega arith) (⊎_elim (λ e. omega arith) (λ e. omega arith)) o)
-  resumed_told (Record k p) o = refl
-  resumed_told TooMuch o = refl
-  resumed_told Closed o = refl
+  resumed_told None o = absurd (false≢true o)
+  resumed_told (Some (k, p)) o = refl
 
 -- what was reached, by the answer
 module _ (st : State) (piece : List ℕ) (r : Fed) (x : Reached st piece r) where
-  as_answered : (a : Answer) → r.answer ≡ a → resumed piece (answer_told r.state.label (took r.state r.taken) a) ≡ feed_of st piece
-  as_answered a e = ap (λ (b : Answer). resumed piece (answer_told r.state.label (took r.state r.taken) b)) (sym e) ∙ x.goes
+  as_answered : (a : Option (Klv × ℕ)) → r.found ≡ a → resumed piece (found_told r.state.label (took r.state r.taken) a) ≡ feed_of st piece
+  as_answered a e = ap (λ (b : Option (Klv × ℕ)). resumed piece (found_told r.state.label (took r.state r.taken) b)) (sym e) ∙ x.goes
 
-  pub reached_found : (k : Klv) (n : ℕ) → r.answer ≡ Record k n → found (record { it = record { klv = k; key = r.state.label }; passed = n }) (took r.state r.taken) ≡ feed_of st piece
+  pub reached_found : (k : Klv) (n : ℕ) → r.found ≡ Some (k, n) → found (record { it = record { klv = k; key = r.state.label }; passed = n }) (took r.state r.taken) ≡ feed_of st piece
   unfolding resumed
-  reached_found k n e = as_answered (Record k n) e
+  reached_found k n e = as_answered (Some (k, n)) e
 
-  pub reached_nothing : r.answer ≡ Nothing → length piece ≤ r.taken → nothing (took r.state r.taken) ≡ feed_of st piece
+  pub reached_nothing : r.found ≡ None → length piece ≤ r.taken → nothing (took r.state r.taken) ≡ feed_of st piece
   unfolding resumed
-  reached_nothing e h = sym (takes_none r.state piece r.taken r.taken h) ∙ as_answered Nothing e
-
-  pub reached_much : r.answer ≡ TooMuch → refused 2 (took r.state r.taken) ≡ feed_of st piece
-  unfolding resumed
-  reached_much e = as_answered TooMuch e
-
-  pub reached_shut : r.answer ≡ Closed → refused 5 (took r.state r.taken) ≡ feed_of st piece
-  unfolding resumed
-  reached_shut e = as_answered Closed e
+  reached_nothing e h = sym (takes_none r.state piece r.taken r.taken h) ∙ as_answered None e
 
 -- a search may start at a state that keeps nothing of a key
 pub searching_sought : (st : State) (piece : List ℕ) (s : State) (i : ℕ) → Searching st piece s i → Searching st piece (sought s (s.at + s.have) 0) i

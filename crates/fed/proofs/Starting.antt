@@ -1,4 +1,5 @@
 -- Where a search starts, and a byte of a key's start. Assumes nothing.
+use Rattle.std.specs.Prelude.{Option, Some, None}
 use Prim.Native.Nat.{ℕ, ◌+◌, ◌-◌, ◌≤◌, ◌<◌}
 use mathlib.Core.Path.{◌≡◌, sym, ap, ◌∙◌}
 use mathlib.Core.Bool.{true, false, not, false≢true}
@@ -18,7 +19,6 @@ use Rattle.fed_states.specs.State.{sought}
 use Rattle.fed_bytes.specs.Eat.{seek_of, eat_of}
 use Rattle.fed_bytes.specs.Feed.{took, up_to}
 use Rattle.fed_bytes.proofs.Laws.{eq_or, seek_next, seek_first, seek_none, eat_seek, Bytewise}
-use Rattle.fed.specs.declared.Answer.TheVariants.{Nothing}
 use Rattle.fed.specs.Parts.{starts_of, reaches, onward, Bitten}
 
 module _ (have b : ℕ) where
@@ -86,7 +86,7 @@ module _ (st : State) (piece : List ℕ) (i n : ℕ) where
 
 -- a byte of a key's start is taken by itself
 pub next_bitten : (st : State) (piece : List ℕ) (i : ℕ) → i < length piece → st.at + st.have + (length piece - i) ≤ st.limit → st.have < 4 → starts_of st.have (get_or piece i 0) ≡ false
-    → (s : State) → s ≡ sought st st.at (st.have + 1) → Bitten st piece i (record { state = s; taken = i + 1; answer = Nothing })
+    → (s : State) → s ≡ sought st st.at (st.have + 1) → Bitten st piece i (record { state = s; taken = i + 1; found = None })
 unfolding onward
 next_bitten st piece i h f m b s e =
     record {

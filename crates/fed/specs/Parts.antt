@@ -1,9 +1,10 @@
 -- What the parts of a call answer, by which it goes on faster than byte by byte.
-use Rattle.std.specs.Prelude.{ℕ, suc, ◌+◌, ◌-◌, ◌≤◌, ◌<◌, ◌≡◌, List, [], ◌∷◌, Bool, cond, not, ◌&&◌, ◌||◌, length, get_or, drop, ltb, leb, eqb}
+use Rattle.std.specs.Prelude.{ℕ, suc, ◌+◌, ◌-◌, ◌≤◌, ◌<◌, ◌≡◌, List, [], ◌∷◌, Bool, cond, not, ◌&&◌, ◌||◌, length, get_or, drop, ltb, leb, eqb, Err, Ok, Result}
 use Rattle.steps.specs.Told.{ToldAt, found, nothing, refused}
 use Rattle.labels.specs.Label.{key_start}
-use Rattle.lengths.specs.declared.Length.{Length}
-use Rattle.lengths.specs.declared.Length.TheVariants.{Is, Cut, None}
+use Rattle.lengths.specs.declared.Field.{Field}
+use Rattle.lengths.specs.declared.NoLength.{NoLength}
+use Rattle.lengths.specs.declared.NoLength.TheVariants.{Cut, Invalid}
 use Rattle.klv.specs.Item.{Item}
 use Rattle.fed_states.specs.declared.State.{State}
 use Rattle.fed_states.specs.State.{sound_of}
@@ -45,10 +46,10 @@ having st have = record { limit = st.limit; known = st.known; live = st.live; at
 
 -- with how many bytes from the key on something comes of its length: with the first where it is none, with its own last where the
 -- value passes the limit, else with the value's last
-unfoldable pub due_of : State → Length → ℕ
-due_of st (Is f) = cond (leb (st.at + 16 + f.size + f.value) st.limit) (16 + f.size + f.value) (16 + f.size)
-due_of st Cut = 0
-due_of st None = 17
+unfoldable pub due_of : State → Result Field NoLength → ℕ
+due_of st (Ok f) = cond (leb (st.at + 16 + f.size + f.value) st.limit) (16 + f.size + f.value) (16 + f.size)
+due_of st (Err Cut) = 0
+due_of st (Err Invalid) = 17
 
 -- what is kept of the bytes behind a state, which may come, where the walk waits at w
 unfoldable pub rest_of : State → List ℕ → ℕ → State

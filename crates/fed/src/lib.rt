@@ -6,48 +6,30 @@ ghost use Rattle.fed_states.specs.State.{sought, length_of};
 ghost use Rattle.fed_bytes.specs.Eat.{turn_of, turned};
 ghost use Rattle.fed_bytes.specs.Feed.{took, eats, feed_of};
 ghost use Rattle.fed_bytes.specs.Fill.{filled, kept_from};
-ghost use Rattle.fed.specs.Told.{eaten_told, fed_told};
+ghost use Rattle.fed.specs.Told.{eaten_told, fed_told, feed_told};
 ghost use Rattle.fed.specs.Parts.{starts_of, reach_of, breaks_of, searches_of, having, due_of, rest_of, Bitten};
 ghost use Rattle.steps.specs.Told.{nothing};
 
-use fed_states::{State, gone_on, label_at, length_of, sought, sound};
+use fed_states::{FedError, State, gone_on, label_at, length_of, sought, sound};
 use klv::Klv;
 use labels::KEY_START;
-use lengths::Length;
-use parts::{lesser, saturating_sub};
+use lengths::{Field, NoLength};
 use walk::{Cursor, Step};
 
-// What a call answers.
-#[derive(Clone, Copy)]
-pub enum Answer {
-    // All bytes are taken, and no record is complete.
-    Nothing,
-    // The last byte taken completes this record, whose label is the state's; so many bytes were passed before it.
-    Record(Klv, usize),
-    // Refusals 2, the piece would pass the limit or the end, and 5, the walk is closed.
-    TooMuch,
-    Closed,
-}
-
-// What feeding a piece comes to.
+// What feeding a piece comes to: the state, how many bytes were taken, and the record that the last of them completes, with the
+// bytes passed before it. Its label is the state's.
 #[derive(Clone, Copy)]
 pub struct Fed {
     pub state: State,
     pub taken: usize,
-    pub answer: Answer,
+    pub found: Option<(Klv, usize)>,
 }
 
 // What a byte comes to.
 #[derive(Clone, Copy)]
 pub struct Eaten {
     pub state: State,
-    pub answer: Answer,
-}
-
-fn larger(a: usize, b: usize) -> usize
-    ensures { result ≡ max a b }
-{
-    if a <= b { b } else { a }
+    pub found: Option<(Klv, usize)>,
 }
 
 // Whether a search for a key starts at this byte: none of it has come, or the byte breaks it off.
@@ -67,17 +49,15 @@ fn starts(have: usize, b: u8) -> bool
 fn breaks(have: usize, piece: &[u8]) -> usize
     ensures { result ≡ breaks_of have piece.now }
 {
-    let mut i = 0;
-    while i < piece.len() {
+    for i in 0..piece.len() {
         if 4 <= have + i {
             return piece.len();
         }
         if starts(have + i, piece[i]) {
             return i;
         }
-        i += 1;
     }
-    i
+    piece.len()
 }
 
 // The same of a piece that may come: all of it where it may not, or the walk is closed.
@@ -109,25 +89,19 @@ fn fill(st: State, piece: &[u8], i: usize, m: usize) -> State
     let have = st.have;
     let mut label = st.label;
     let mut ber = st.ber;
-    let mut n = 0;
-    while n < m {
+    for n in 0..m {
         let at = have + n;
         if at < 16 {
             label[at] = piece[i + n];
         } else {
             ber[at - 16] = piece[i + n];
         }
-        n += 1;
     }
     State {
-        limit: st.limit,
-        known: st.known,
-        live: st.live,
-        at: st.at,
         have: have + m,
-        since: st.since,
         label,
         ber,
+        ..st
     }
 }
 
@@ -137,7 +111,7 @@ fn silent(st: State) -> Eaten
 {
     Eaten {
         state: st,
-        answer: Answer::Nothing,
+        found: None,
     }
 }
 
@@ -149,10 +123,10 @@ fn turn(st: State) -> Eaten
 {
     let at = st.at;
     let l = length_of(st);
-    if let Length::Cut = l {
-        return silent(st);
-    }
-    let Length::Is(f) = l else {
+    let Ok(f) = l else {
+        if l == Err(NoLength::Cut) {
+            return silent(st);
+        }
         let next = at + 17;
         return silent(sought(st, next, 0));
     };
@@ -171,7 +145,7 @@ fn turn(st: State) -> Eaten
         };
         return Eaten {
             state: gone_on(st, next, label),
-            answer: Answer::Record(k, saturating_sub(at, st.since)),
+            found: Some((k, at.saturating_sub(st.since))),
         };
     }
     if n <= (st.limit - v) as u64 {
@@ -184,26 +158,21 @@ fn turn(st: State) -> Eaten
 fn quiet(st: State, have: usize, taken: usize) -> Fed
     ensures { fed_told result ≡ nothing (took (having st have) taken) }
 {
-    let mut s = st;
-    s.have = have;
     Fed {
-        state: s,
+        state: State { have, ..st },
         taken,
-        answer: Answer::Nothing,
+        found: None,
     }
 }
 
 // With how many bytes from the key on something comes of its length.
-fn due(st: State, l: Length) -> usize
+fn due(st: State, l: Result<Field, NoLength>) -> usize
     requires have_bound { st.at + st.have ≤ st.limit }
     requires l_value { l ≡ length_of st }
     ensures { result ≡ due_of st l }
 {
-    if let Length::Cut = l {
-        return 0;
-    }
-    let Length::Is(f) = l else {
-        return 17;
+    let Ok(f) = l else {
+        return if l == Err(NoLength::Cut) { 0 } else { 17 };
     };
     let size = 16 + f.size;
     if f.value <= (st.limit - (st.at + size)) as u64 {
@@ -221,24 +190,21 @@ fn bite(st: State, piece: &[u8], i: usize) -> Fed
 {
     let have = st.have;
     let more = piece.len() - i;
-    let mut s = fill(st, piece, i, lesser(saturating_sub(25, have), more));
+    let mut s = fill(st, piece, i, 25usize.saturating_sub(have).min(more));
     let l = length_of(s);
-    if let Length::Cut = l {
+    if l == Err(NoLength::Cut) {
         return quiet(s, have + more, piece.len());
     }
-    let e = larger(due(s, l), have + 1);
+    let e = due(s, l).max(have + 1);
     if have + more < e {
         return quiet(s, have + more, piece.len());
     }
     s.have = e;
     let r = turn(s);
-    let t = r.state;
-    let a = r.answer;
-    let taken = i + (e - have);
     Fed {
-        state: t,
-        taken,
-        answer: a,
+        state: r.state,
+        taken: i + (e - have),
+        found: r.found,
     }
 }
 
@@ -253,7 +219,7 @@ fn next(st: State, piece: &[u8], i: usize) -> Fed
         return Fed {
             state: sought(st, st.at, st.have + 1),
             taken: i + 1,
-            answer: Answer::Nothing,
+            found: None,
         };
     }
     bite(st, piece, i)
@@ -268,7 +234,7 @@ fn keep(st: State, here: usize, s: &[u8], w: usize) -> State
     let r = search::next_key(s, s.len(), w);
     if r < s.len() {
         let size = s.len() - r;
-        let mut k = fill(sought(st, here + r, 4), s, r + 4, lesser(size, 25) - 4);
+        let mut k = fill(sought(st, here + r, 4), s, r + 4, size.min(25) - 4);
         k.have = size;
         return k;
     }
@@ -300,96 +266,67 @@ fn walk_on(st: State, piece: &[u8], i: usize) -> Fed
 {
     let here = st.at + st.have;
     let tail = &piece[i..];
-    let t = Cursor { at: 0, since: 0 }.arrive(tail, st.limit - here);
-    match t {
+    let start = Cursor { at: 0, since: 0 };
+    match start.arrive(tail, st.limit - here).unwrap() {
         Step::Record(k, _, c) => {
             let at = here + k.at;
             let value = here + k.value;
             let next = here + c.at;
-            let taken = i + c.at;
-            let record = Klv {
-                at,
-                value,
-                len: k.len,
-                size: k.size,
-                shortest: k.shortest,
-            };
+            let record = Klv { at, value, ..k };
             Fed {
                 state: gone_on(st, next, label_at(tail, k.at)),
-                taken,
-                answer: Answer::Record(record, saturating_sub(at, st.since)),
+                taken: i + c.at,
+                found: Some((record, at.saturating_sub(st.since))),
             }
         }
         Step::Rests(c) => Fed {
             state: keep(st, here, tail, c.at),
             taken: piece.len(),
-            answer: Answer::Nothing,
-        },
-        Step::Refused => Fed {
-            state: st,
-            taken: i,
-            answer: Answer::TooMuch,
+            found: None,
         },
     }
 }
 
 // Takes the piece up to the byte that completes a record, or before which a search starts.
-pub fn reach(st: State, piece: &[u8]) -> Fed
-    ensures { fed_told result ≡ reach_of st piece.now }
+pub fn reach(st: State, piece: &[u8]) -> Result<Fed, FedError>
+    ensures { feed_told st result ≡ reach_of st piece.now }
 {
     if !sound(st) {
-        return Fed {
-            state: st,
-            taken: 0,
-            answer: Answer::Closed,
-        };
+        return Err(FedError::Closed);
     }
     if st.limit - (st.at + st.have) < piece.len() {
-        return Fed {
-            state: st,
-            taken: 0,
-            answer: Answer::TooMuch,
-        };
+        return Err(FedError::TooMuch);
     }
     let mut s = st;
     let mut i = 0;
     while i < piece.len() {
         if starts(s.have, piece[i]) {
-            return Fed {
-                state: s,
-                taken: i,
-                answer: Answer::Nothing,
-            };
+            break;
         }
         let f = next(s, piece, i);
+        if f.found.is_some() {
+            return Ok(f);
+        }
         i = f.taken;
         s = f.state;
-        let a = f.answer;
-        if let Answer::Record(k, n) = a {
-            return Fed {
-                state: s,
-                taken: i,
-                answer: Answer::Record(k, n),
-            };
-        }
     }
-    Fed {
+    Ok(Fed {
         state: s,
         taken: i,
-        answer: Answer::Nothing,
-    }
+        found: None,
+    })
 }
 
 // Takes the piece up to the byte that completes a record, else all of it.
-pub fn feed(st: State, piece: &[u8]) -> Fed
-    ensures { fed_told result ≡ feed_of st piece.now }
+pub fn feed(st: State, piece: &[u8]) -> Result<Fed, FedError>
+    ensures { feed_told st result ≡ feed_of st piece.now }
 {
-    let f = reach(st, piece);
-    let a = f.answer;
-    if let Answer::Nothing = a {
-        if f.taken < piece.len() {
-            return walk_on(f.state, piece, f.taken);
-        }
+    let f = reach(st, piece)?;
+    if f.found.is_some() {
+        return Ok(f);
     }
-    f
+    if f.taken < piece.len() {
+        return Ok(walk_on(f.state, piece, f.taken));
+    }
+    Ok(f)
 }

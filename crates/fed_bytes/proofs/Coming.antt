@@ -1,4 +1,5 @@
 -- What comes of the bytes behind a key's start, all at once: the length is read once, behind the last byte that is kept. Assumes nothing.
+use Rattle.std.specs.Prelude.{Err, Ok}
 use Prim.Native.Nat.{ℕ, suc, ◌+◌, ◌-◌, ◌≤◌, ◌<◌, max}
 use mathlib.Core.Path.{◌≡◌, sym, ap, ◌∙◌}
 use mathlib.Core.List.{List}
@@ -8,7 +9,7 @@ use native.Mathlib.Decide.{dec_lt}
 use lib.ListN.{length, take, drop}
 use Rattle.steps.specs.Told.{ToldAt, found}
 use Rattle.lengths.specs.declared.Field.{Field}
-use Rattle.lengths.specs.declared.Length.TheVariants.{Is, Cut, None}
+use Rattle.lengths.specs.declared.NoLength.TheVariants.{Cut, Invalid}
 use Rattle.lengths.specs.Length.{length_at}
 use Rattle.klv.specs.Item.{klv, Item}
 use Rattle.fed_states.specs.declared.State.{State}
@@ -35,30 +36,30 @@ module _ (st : State) (l : List ℕ) (i : ℕ) (four : 4 ≤ st.have) (K M : ℕ
       by_cases (dec_lt K j) (λ k. ap (λ (x : List ℕ). length_at (take (st.have + j - 16) x) 0) (ber_stays st l i K j (omega arith) (enough (omega arith))))
       (λ k. length_prefix st l i j K (omega arith))
 
-  is_at : (f : Field) → length_of (filled st l i K) ≡ Is f → (j : ℕ) → j ≤ M → 16 + f.size ≤ st.have + j → length_of (filled st l i j) ≡ Is f
+  is_at : (f : Field) → length_of (filled st l i K) ≡ Ok f → (j : ℕ) → j ≤ M → 16 + f.size ≤ st.have + j → length_of (filled st l i j) ≡ Ok f
   is_at f e j h k =
       length-at j h
       ∙ by_cases (dec_lt K j) (λ o. length-longer (ber_with st l i K) (st.have + K - 16) (st.have + j - 16) (omega arith) f e)
       (λ o. length_back (ber_with st l i K) (st.have + j - 16) (st.have + K - 16) (omega arith) f e (omega arith))
 
-  cut_at : (f : Field) → length_of (filled st l i K) ≡ Is f → (j : ℕ) → j ≤ M → st.have + j < 16 + f.size → length_of (filled st l i j) ≡ Cut
+  cut_at : (f : Field) → length_of (filled st l i K) ≡ Ok f → (j : ℕ) → j ≤ M → st.have + j < 16 + f.size → length_of (filled st l i j) ≡ Err Cut
   cut_at f e j h k =
       let c = come (filled st l i K) f e in
       length-at j h ∙ length_before (ber_with st l i K) (st.have + j - 16) (st.have + K - 16) (omega (arith, c.behind)) f e (omega (arith, c.some))
 
-  none-at : length_of (filled st l i K) ≡ None → 17 ≤ st.have + K → (j : ℕ) → j ≤ M → 17 ≤ st.have + j → length_of (filled st l i j) ≡ None
+  none-at : length_of (filled st l i K) ≡ Err Invalid → 17 ≤ st.have + K → (j : ℕ) → j ≤ M → 17 ≤ st.have + j → length_of (filled st l i j) ≡ Err Invalid
   none-at e a j h k =
       length-at j h
       ∙ by_cases (dec_lt K j) (λ o. none-longer (ber_with st l i K) (st.have + K - 16) (st.have + j - 16) (omega arith) e (omega arith))
       (λ o. none_back (ber_with st l i K) (st.have + j - 16) (st.have + K - 16) (omega arith) e (omega arith))
 
-  all-cut : length_of (filled st l i K) ≡ Cut → (j : ℕ) → j ≤ M → length_of (filled st l i j) ≡ Cut
+  all-cut : length_of (filled st l i K) ≡ Err Cut → (j : ℕ) → j ≤ M → length_of (filled st l i j) ≡ Err Cut
   all-cut e j h =
       length-at j h
       ∙ by_cases (dec_lt K j) (λ o. let g = enough (omega arith) in cut-longer (ber_with st l i K) (st.have + K - 16) (st.have + j - 16) (omega arith) e (omega arith))
       (λ o. cut_back (ber_with st l i K) (st.have + j - 16) (st.have + K - 16) (omega arith) e)
 
-  quiet_before : (f : Field) → length_of (filled st l i K) ≡ Is f → st.at + 16 + f.size + f.value ≤ st.limit → (j : ℕ) → j ≤ M → st.have + j < 16 + f.size + f.value → Quiet st l i j
+  quiet_before : (f : Field) → length_of (filled st l i K) ≡ Ok f → st.at + 16 + f.size + f.value ≤ st.limit → (j : ℕ) → j ≤ M → st.have + j < 16 + f.size + f.value → Quiet st l i j
   quiet_before f e v j h k =
       by_cases (dec_lt (st.have + j) (16 + f.size)) (λ o. turn_cut (filled st l i j) (cut_at f e j h o))
       (λ o. turn_wait (filled st l i j) f (is_at f e j h (omega arith)) (omega arith) v)
@@ -71,10 +72,10 @@ module _ (st : State) (l : List ℕ) (i : ℕ) (four : 4 ≤ st.have) (K M : ℕ
     quiet_all : (n : ℕ) → ((j : ℕ) → j ≤ M → 17 ≤ st.have + j → Quiet st l i j) → on st (drop i l) n ≡ on (counting (st.have + M)) (drop (i + M) l) (n + M)
     quiet_all n q = takes-filled st l i on by M n four there (λ j a b c. q j a b) ∙ ap (λ (s : State). on s (drop (i + M) l) (n + M)) (only-counted st l i K M less enough)
 
-    pub comes_cut : (n : ℕ) → length_of (filled st l i K) ≡ Cut → on st (drop i l) n ≡ on (counting (st.have + M)) (drop (i + M) l) (n + M)
+    pub comes_cut : (n : ℕ) → length_of (filled st l i K) ≡ Err Cut → on st (drop i l) n ≡ on (counting (st.have + M)) (drop (i + M) l) (n + M)
     comes_cut n e = quiet_all n (λ j a b. turn_cut (filled st l i j) (all-cut e j a))
 
-    pub comes_waits : (n : ℕ) (f : Field) → length_of (filled st l i K) ≡ Is f → st.at + 16 + f.size + f.value ≤ st.limit → st.have + M < 16 + f.size + f.value
+    pub comes_waits : (n : ℕ) (f : Field) → length_of (filled st l i K) ≡ Ok f → st.at + 16 + f.size + f.value ≤ st.limit → st.have + M < 16 + f.size + f.value
         → on st (drop i l) n ≡ on (counting (st.have + M)) (drop (i + M) l) (n + M)
     comes_waits n f e v h = quiet_all n (λ j a b. quiet_before f e v j a (omega arith))
 
@@ -115,18 +116,18 @@ module _ (st : State) (l : List ℕ) (i : ℕ) (four : 4 ≤ st.have) (K M : ℕ
       length-there : length_of (counting e) ≡ length_of (filled st l i d)
       length-there = sym (length-at d (omega arith) ∙ ap (λ (m : ℕ). length_at (take (m - 16) (ber_with st l i K)) 0) count-is)
 
-      pub comes_none : length_of (filled st l i K) ≡ None → 17 ≤ st.have + K → e ≡ max 17 (st.have + 1) → Comes
+      pub comes_none : length_of (filled st l i K) ≡ Err Invalid → 17 ≤ st.have + K → e ≡ max 17 (st.have + 1) → Comes
       comes_none x k m =
           let y = none-at x k d (omega arith) (omega arith) in
           comes_at (λ j a b c o. absurd (omega arith)) (turn_none (filled st l i d) y ∙ sym (turn_none (counting e) (length-there ∙ y)))
 
-      pub comes_late : (f : Field) → length_of (filled st l i K) ≡ Is f → st.limit < st.at + 16 + f.size + f.value → e ≡ max (16 + f.size) (st.have + 1) → Comes
+      pub comes_late : (f : Field) → length_of (filled st l i K) ≡ Ok f → st.limit < st.at + 16 + f.size + f.value → e ≡ max (16 + f.size) (st.have + 1) → Comes
       comes_late f x v m =
           let y = is_at f x d (omega arith) (omega arith) in
           comes_at (λ j a b c o. turn_cut (filled st l i j) (cut_at f x j a (omega arith)))
           (turn_late (filled st l i d) f y (omega arith) v ∙ sym (turn_late (counting e) f (length-there ∙ y) (omega arith) v))
 
-      pub comes_record : (f : Field) → length_of (filled st l i K) ≡ Is f → st.at + 16 + f.size + f.value ≤ st.limit → e ≡ max (16 + f.size + f.value) (st.have + 1) → Comes
+      pub comes_record : (f : Field) → length_of (filled st l i K) ≡ Ok f → st.at + 16 + f.size + f.value ≤ st.limit → e ≡ max (16 + f.size + f.value) (st.have + 1) → Comes
       comes_record f x v m =
           let y = is_at f x d (omega arith) (omega arith) in
           let c = come (filled st l i K) f x in

@@ -1,4 +1,5 @@
 -- Where the walk's rules stop, the bytes from there on tell nothing, and this is kept of them. Assumes nothing.
+use Rattle.std.specs.Prelude.{Err, Ok, Result}
 use Prim.Native.Nat.{ℕ, ◌+◌, ◌-◌, ◌≤◌, ◌<◌}
 use mathlib.Core.Path.{◌≡◌, refl, sym, ap, ◌∙◌}
 use mathlib.Core.List.{List}
@@ -12,8 +13,8 @@ use lib.Seq.{take-length, get_or-take, ext_get_or}
 use Rattle.steps.specs.Told.{ToldAt, nothing}
 use Rattle.labels.specs.Label.{key_at}
 use Rattle.lengths.specs.declared.Field.{Field}
-use Rattle.lengths.specs.declared.Length.{Length}
-use Rattle.lengths.specs.declared.Length.TheVariants.{Is, Cut}
+use Rattle.lengths.specs.declared.NoLength.{NoLength}
+use Rattle.lengths.specs.declared.NoLength.TheVariants.{Cut}
 use Rattle.lengths.specs.Length.{length_at}
 use Rattle.lengths.proofs.Laws.{Case, c_past, c_short, c_none, c_cut, c_long, case, taken}
 use Rattle.search.specs.Search.{key_before, search_from, wait_from}
@@ -35,10 +36,10 @@ use Rattle.fed_bytes.proofs.Searching.{seeking, seek_key, seek_none-left, none-o
 use Rattle.fed_bytes.proofs.Records.{come, come-length, come_byte, at_place, takes-behind, quiet_length, quiet_value}
 
 -- a length that is cut has at most eight bytes
-few : (x : List ℕ) → length_at x 0 ≡ Cut → length x ≤ 8
+few : (x : List ℕ) → length_at x 0 ≡ Err Cut → length x ≤ 8
 few x e = go (length_at x 0) (case x 0) e
   where
-    go : (l : Length) → Case x 0 l → l ≡ Cut → length x ≤ 8
+    go : (l : Result Field NoLength) → Case x 0 l → l ≡ Err Cut → length x ≤ 8
     go l (c_past h) e = omega arith
     go l (c_short h b) e = absurd (let z : ◌≡◌ {A = ℕ} 0 1 = cc in omega arith)
     go l (c_none h b) e = absurd (let z : ◌≡◌ {A = ℕ} 0 1 = cc in omega arith)
@@ -90,16 +91,16 @@ module _ (st : State) (here : ℕ) (l : List ℕ) (n : ℕ) where
     here-key = sym (key_here l (length l) w (omega arith) key)
 
     -- a length that is cut
-    keeps_cut : length_at l (w + 16) ≡ Cut → seeking st here l n w ≡ keeps w
+    keeps_cut : length_at l (w + 16) ≡ Err Cut → seeking st here l n w ≡ keeps w
     keeps_cut e = keeps-key w w (omega arith) here-key key (omega arith) (λ j a b. turn_cut (filled (sought st (here + w) 4) l (w + 4) j) (cut_at j a b))
       where
         rest : List ℕ
         rest = drop (w + 16) l
 
-        is_cut : length_at (drop (w + 16) l) 0 ≡ Cut
-        is_cut = at_place st here l n w key (omega arith) Cut e
+        is_cut : length_at (drop (w + 16) l) 0 ≡ Err Cut
+        is_cut = at_place st here l n w key (omega arith) (Err Cut) e
 
-        cut_at : (j : ℕ) → j ≤ length l - (w + 4) → 13 ≤ j → length_of (filled (sought st (here + w) 4) l (w + 4) j) ≡ Cut
+        cut_at : (j : ℕ) → j ≤ length l - (w + 4) → 13 ≤ j → length_of (filled (sought st (here + w) 4) l (w + 4) j) ≡ Err Cut
         cut_at j a b =
             let c = come-length st here l n w key (omega arith) j in
             let d = length-drop (w + 16) l in
@@ -111,7 +112,7 @@ module _ (st : State) (here : ℕ) (l : List ℕ) (n : ℕ) where
             ∙ cut_back (drop (w + 16) l) (4 + j - 16) (length (drop (w + 16) l)) (omega arith) (ap (λ (x : List ℕ). length_at x 0) (take-length (drop (w + 16) l)) ∙ is_cut)
 
     -- a value that is missing
-    pub keeps-value : (f : Field) → length_at l (w + 16) ≡ Is f → length l - (w + 16 + f.size) < f.value → here + w + 16 + f.size + f.value ≤ st.limit → seeking st here l n w ≡ keeps w
+    pub keeps-value : (f : Field) → length_at l (w + 16) ≡ Ok f → length l - (w + 16 + f.size) < f.value → here + w + 16 + f.size + f.value ≤ st.limit → seeking st here l n w ≡ keeps w
     keeps-value f e m v =
         let t = taken l (w + 16) f e in
         keeps-key w w (omega arith) here-key key (omega arith)

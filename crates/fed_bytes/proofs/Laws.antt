@@ -1,4 +1,5 @@
 -- Laws of the definitions of `specs/`, and the cases of a byte. Assumes nothing.
+use Rattle.std.specs.Prelude.{Err, Ok, Result}
 use Prim.Native.Nat.{ℕ, ◌+◌, ◌-◌, ◌≤◌, ◌<◌}
 use mathlib.Core.Path.{◌≡◌, refl, ap, ◌∙◌}
 use mathlib.Core.List.{List, ◌∷◌}
@@ -14,8 +15,8 @@ use borrow.Author.Tests.{le-ltb, lt-ltb, le-leb, lt-leb, eq-eqb, ne_eqb}
 use Rattle.steps.specs.Told.{ToldAt, found, nothing, refused}
 use Rattle.labels.specs.Label.{key_start}
 use Rattle.lengths.specs.declared.Field.{Field}
-use Rattle.lengths.specs.declared.Length.{Length}
-use Rattle.lengths.specs.declared.Length.TheVariants.{Is, Cut, None}
+use Rattle.lengths.specs.declared.NoLength.{NoLength}
+use Rattle.lengths.specs.declared.NoLength.TheVariants.{Cut, Invalid}
 use Rattle.klv.specs.Item.{klv, Item}
 use Rattle.walk.specs.Rules.{by_value, by_length}
 use Rattle.fed_states.specs.declared.State.{State}
@@ -57,15 +58,15 @@ seek_most have b = go (eqb b (get_or key_start have 0)) (eqb b 0x06)
 -- The rules at a key's place
 
 module _ (st : State) where
-  pub turn_cut : length_of st ≡ Cut → turned st (turn_of st) ≡ nothing st
+  pub turn_cut : length_of st ≡ Err Cut → turned st (turn_of st) ≡ nothing st
   unfolding turned by_length
   turn_cut l = rw l
 
-  pub turn_none : length_of st ≡ None → turned st (turn_of st) ≡ nothing (sought st (st.at + 17) 0)
+  pub turn_none : length_of st ≡ Err Invalid → turned st (turn_of st) ≡ nothing (sought st (st.at + 17) 0)
   unfolding turned by_length
   turn_none l = rw l
 
-  module _ (f : Field) (l : length_of st ≡ Is f) where
+  module _ (f : Field) (l : length_of st ≡ Ok f) where
     pub turn_record : f.value ≤ st.at + st.have - (st.at + 16 + f.size)
         → turned st (turn_of st) ≡ found (told_of st (klv 16 st.at f)) (gone_on st (st.at + 16 + f.size + f.value) st.label)
     unfolding turned by_length by_value
@@ -81,21 +82,21 @@ module _ (st : State) where
       turn_late m = simp (l, lt-leb _ _ h, lt-leb _ _ m)
 
 pub data Turned (st : State) : ToldAt State (Passed Item) → Type 0 where
-  cut : length_of st ≡ Cut → Turned st (nothing st)
-  none : length_of st ≡ None → Turned st (nothing (sought st (st.at + 17) 0))
-  whole : (f : Field) → length_of st ≡ Is f → f.value ≤ st.at + st.have - (st.at + 16 + f.size)
+  cut : length_of st ≡ Err Cut → Turned st (nothing st)
+  none : length_of st ≡ Err Invalid → Turned st (nothing (sought st (st.at + 17) 0))
+  whole : (f : Field) → length_of st ≡ Ok f → f.value ≤ st.at + st.have - (st.at + 16 + f.size)
       → Turned st (found (told_of st (klv 16 st.at f)) (gone_on st (st.at + 16 + f.size + f.value) st.label))
-  waits : (f : Field) → length_of st ≡ Is f → st.at + st.have - (st.at + 16 + f.size) < f.value → st.at + 16 + f.size + f.value ≤ st.limit → Turned st (nothing st)
-  late : (f : Field) → length_of st ≡ Is f → st.at + st.have - (st.at + 16 + f.size) < f.value → st.limit < st.at + 16 + f.size + f.value
+  waits : (f : Field) → length_of st ≡ Ok f → st.at + st.have - (st.at + 16 + f.size) < f.value → st.at + 16 + f.size + f.value ≤ st.limit → Turned st (nothing st)
+  late : (f : Field) → length_of st ≡ Ok f → st.at + st.have - (st.at + 16 + f.size) < f.value → st.limit < st.at + 16 + f.size + f.value
       → Turned st (nothing (sought st (st.at + 16 + f.size) 0))
 
 pub turn_case : (st : State) → Turned st (turned st (turn_of st))
 turn_case st = go (length_of st) refl
   where
-    go : (l : Length) → length_of st ≡ l → Turned st (turned st (turn_of st))
-    go Cut l = rw (turn_cut st l) (cut l)
-    go None l = rw (turn_none st l) (none l)
-    go (Is f) l =
+    go : (l : Result Field NoLength) → length_of st ≡ l → Turned st (turned st (turn_of st))
+    go (Err Cut) l = rw (turn_cut st l) (cut l)
+    go (Err Invalid) l = rw (turn_none st l) (none l)
+    go (Ok f) l =
         by_cases (dec_lt (st.at + st.have - (st.at + 16 + f.size)) f.value)
         (λ h. by_cases (dec_lt st.limit (st.at + 16 + f.size + f.value))
         (λ m. rw (turn_late st f l h m) (late f l h m))
@@ -104,8 +105,8 @@ turn_case st = go (length_of st) refl
 
 -- A state that waits behind its label: for the rest of a length, or for that of a value
 pub data Resting (st : State) : Type 0 where
-  for_length : length_of st ≡ Cut → Resting st
-  for_value : (f : Field) → length_of st ≡ Is f → st.at + st.have - (st.at + 16 + f.size) < f.value → st.at + 16 + f.size + f.value ≤ st.limit → Resting st
+  for_length : length_of st ≡ Err Cut → Resting st
+  for_value : (f : Field) → length_of st ≡ Ok f → st.at + st.have - (st.at + 16 + f.size) < f.value → st.at + 16 + f.size + f.value ≤ st.limit → Resting st
 
 -- the state some bytes further on, of which nothing is kept
 abbrev pub further : State → ℕ → State

@@ -1,4 +1,5 @@
 -- Numbers, key starts and lengths of the bytes from a place on are those of all the bytes at the moved place. Assumes nothing.
+use Rattle.std.specs.Prelude.{Result}
 use Prim.Native.Nat.{ℕ, ◌+◌, ◌-◌}
 use mathlib.Core.Path.{◌≡◌, ◌∙◌}
 use mathlib.Core.List.{List}
@@ -8,7 +9,8 @@ use lib.Seq.{get_or-drop}
 use Rattle.parts.specs.Number.{number_at}
 use Rattle.parts.proofs.Numbers.{number_moved}
 use Rattle.labels.specs.Label.{key_at}
-use Rattle.lengths.specs.declared.Length.{Length}
+use Rattle.lengths.specs.declared.Field.{Field}
+use Rattle.lengths.specs.declared.NoLength.{NoLength}
 use Rattle.lengths.specs.Length.{field, length_at}
 use Rattle.lengths.proofs.Laws as lengths
 use Rattle.lengths.proofs.Laws.{Case, c_past, c_short, c_none, c_cut, c_long, case}
@@ -40,7 +42,7 @@ module _ (v : ℕ) (s : List ℕ) where
       first : (n : ℕ) → get_or s (v + at) 0 ≡ 0x80 + n → get_or d at 0 - 0x80 ≡ n
       first n b = rw (at_d at, b) (omega arith)
 
-      go : (l : Length) → Case s (v + at) l → length_at d at ≡ l
+      go : (l : Result Field NoLength) → Case s (v + at) l → length_at d at ≡ l
       go l (c_past h) = lengths.past d at (rw len_d (omega arith))
       go l (c_short h b) = lengths.short d at (rw len_d (omega arith)) (rw (at_d at) b) ∙ rw (at_d at)
       go l (c_none h b) = lengths.no_length d at (rw len_d (omega arith)) (rw (at_d at) b)

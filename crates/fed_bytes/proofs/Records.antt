@@ -1,4 +1,5 @@
 -- A key and what is behind it, byte by byte: what the walk's rules say at its place. Assumes nothing.
+use Rattle.std.specs.Prelude.{Err, Ok, Result}
 use Prim.Native.Nat.{ℕ, zero, suc, ◌+◌, ◌-◌, ◌≤◌, ◌<◌, min}
 use mathlib.Core.Path.{◌≡◌, refl, sym, ap, ◌∙◌}
 use mathlib.Core.List.{List}
@@ -12,8 +13,8 @@ use Rattle.steps.specs.Told.{found}
 use Rattle.parts.proofs.Parts.{part_length, part_byte}
 use Rattle.labels.specs.Label.{key_at, key_start, label_at}
 use Rattle.lengths.specs.declared.Field.{Field}
-use Rattle.lengths.specs.declared.Length.{Length}
-use Rattle.lengths.specs.declared.Length.TheVariants.{Is, Cut, None}
+use Rattle.lengths.specs.declared.NoLength.{NoLength}
+use Rattle.lengths.specs.declared.NoLength.TheVariants.{Cut, Invalid}
 use Rattle.lengths.specs.Length.{length_at}
 use Rattle.lengths.proofs.Laws.{taken}
 use Rattle.lengths.proofs.Spans.{length-same, none-same}
@@ -104,26 +105,26 @@ module _ (st : State) (here : ℕ) (l : List ℕ) (n p : ℕ) (key : key_at l p 
   pub come_byte : (m i : ℕ) → 12 + i < m → i < 9 → get_or (come m) i 0 ≡ get_or (drop (p + 16) l) i 0
   come_byte m i h k = get_or-take (4 + m - 16) (ber_with first l (p + 4) m) i 0 (omega arith) ∙ kept_byte m i h k
 
-  pub at_place : (x : Length) → length_at l (p + 16) ≡ x → length_at (drop (p + 16) l) 0 ≡ x
+  pub at_place : (x : Result Field NoLength) → length_at l (p + 16) ≡ x → length_at (drop (p + 16) l) 0 ≡ x
   at_place x e = let z : p + 16 + 0 ≡ p + 16 = omega arith in length_moved (p + 16) l 0 ∙ ap (length_at l) z ∙ e
 
-  pub length-come : (f : Field) → length_at l (p + 16) ≡ Is f → (m : ℕ) → 12 + f.size ≤ m → length_of (after-key m) ≡ Is f
+  pub length-come : (f : Field) → length_at l (p + 16) ≡ Ok f → (m : ℕ) → 12 + f.size ≤ m → length_of (after-key m) ≡ Ok f
   length-come f e m h =
       let t = taken l (p + 16) f e in
       let c = come-length m in
-      length-same (drop (p + 16) l) (come m) 0 f (at_place (Is f) e)
+      length-same (drop (p + 16) l) (come m) 0 f (at_place (Ok f) e)
       (record { there = omega (arith, t.most); equal = λ i a b. come_byte m i (omega arith) (omega (arith, t.most)) })
 
-  pub length_cut : (f : Field) → length_at l (p + 16) ≡ Is f → (m : ℕ) → m < 12 + f.size → length_of (after-key m) ≡ Cut
+  pub length_cut : (f : Field) → length_at l (p + 16) ≡ Ok f → (m : ℕ) → m < 12 + f.size → length_of (after-key m) ≡ Err Cut
   length_cut f e m h =
       let t = taken l (p + 16) f e in
       let c = come-length m in
-      cut-before (drop (p + 16) l) (come m) f (at_place (Is f) e) (omega (arith, t.least)) (λ i k. come_byte m i (omega arith) (omega (arith, t.most)))
+      cut-before (drop (p + 16) l) (come m) f (at_place (Ok f) e) (omega (arith, t.least)) (λ i k. come_byte m i (omega arith) (omega (arith, t.most)))
 
-  length_none : length_at l (p + 16) ≡ None → length_of (after-key 13) ≡ None
+  length_none : length_at l (p + 16) ≡ Err Invalid → length_of (after-key 13) ≡ Err Invalid
   length_none e =
       let c = come-length 13 in
-      none-same (drop (p + 16) l) (come 13) 0 (at_place None e) (record { there = omega arith; equal = λ i a b. come_byte 13 i (omega arith) (omega arith) })
+      none-same (drop (p + 16) l) (come 13) 0 (at_place (Err Invalid) e) (record { there = omega arith; equal = λ i a b. come_byte 13 i (omega arith) (omega arith) })
 
   -- the bytes are taken while nothing comes of them
 
@@ -132,17 +133,17 @@ module _ (st : State) (here : ℕ) (l : List ℕ) (n p : ℕ) (key : key_at l p 
   takes-behind m h q = seek_stands st here l n p start key ∙ takes-filled first l (p + 4) eats eats_bytewise m (n + (p + 4)) (omega arith) h (λ j a b c. q j a (omega arith))
 
   -- until the length is whole, nothing comes of it
-  pub quiet_length : (f : Field) → length_at l (p + 16) ≡ Is f → (j : ℕ) → j < 12 + f.size → Quiet (sought st (here + p) 4) l (p + 4) j
+  pub quiet_length : (f : Field) → length_at l (p + 16) ≡ Ok f → (j : ℕ) → j < 12 + f.size → Quiet (sought st (here + p) 4) l (p + 4) j
   quiet_length f e j h = turn_cut (after-key j) (length_cut f e j h)
 
   -- and nothing of a value that ends within the limit, until its last byte
-  pub quiet_value : (f : Field) → length_at l (p + 16) ≡ Is f → here + p + 16 + f.size + f.value ≤ st.limit → (j : ℕ) → 12 + f.size ≤ j → j < 12 + f.size + f.value
+  pub quiet_value : (f : Field) → length_at l (p + 16) ≡ Ok f → here + p + 16 + f.size + f.value ≤ st.limit → (j : ℕ) → 12 + f.size ≤ j → j < 12 + f.size + f.value
       → Quiet (sought st (here + p) 4) l (p + 4) j
   quiet_value f e v j h k = turn_wait (after-key j) f (length-come f e j h) (omega arith) v
 
   module _ (long : p + 17 ≤ length l) where
     -- no length: a search behind its first byte
-    pub takes-none-length : length_at l (p + 16) ≡ None → seeking st here l n p ≡ seeking st here l n (p + 17)
+    pub takes-none-length : length_at l (p + 16) ≡ Err Invalid → seeking st here l n p ≡ seeking st here l n (p + 17)
     takes-none-length e =
         let x : p + 4 + 12 + 1 ≡ p + 17 = omega arith in
         let y : n + (p + 4) + 12 + 1 ≡ n + (p + 17) = omega arith in
@@ -153,7 +154,7 @@ module _ (st : State) (here : ℕ) (l : List ℕ) (n p : ℕ) (key : key_at l p 
         ∙ rw (x, y, z)
 
     -- a length, with the value's start
-    module _ (f : Field) (e : length_at l (p + 16) ≡ Is f) (v : ℕ) (at-v : p + 16 + f.size ≡ v) where
+    module _ (f : Field) (e : length_at l (p + 16) ≡ Ok f) (v : ℕ) (at-v : p + 16 + f.size ≡ v) where
       -- a value past the limit: a search from there on
       pub takes_late : 0 < f.value → st.limit < here + v + f.value → seeking st here l n p ≡ seeking st here l n v
       takes_late some h =

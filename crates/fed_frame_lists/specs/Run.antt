@@ -6,7 +6,7 @@ use Rattle.steps.specs.Passed.{Passed}
 use Rattle.parts.specs.Answer.{Answer, is, none}
 use Rattle.klv.specs.declared.Klv.{Klv}
 use Rattle.fed_states.specs.State.{shut}
-use Rattle.fed_states.specs.Close.{Rest}
+use Rattle.fed_states.specs.declared.Rest.{Rest}
 use Rattle.fed_bytes.specs.Feed.{after}
 use Rattle.fed_lists.specs.Run.{saying, moved_klv}
 use Rattle.frame_walks.specs.declared.Camera.{Camera}

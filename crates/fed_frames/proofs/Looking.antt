@@ -1,5 +1,6 @@
 -- A call goes on from what it makes of one record. Assumes nothing.
 use Rattle.std.proofs.Common.{◌≡◌, ℕ, zero, suc, ◌+◌, ◌-◌, ◌<◌, max, true, false, List, length, drop, sym, refl, ap, ◌∙◌, arith}
+use Rattle.std.specs.declared.ops.ControlFlow.TheVariants.{Break, Continue}
 use Rattle.steps.specs.Told.{ToldAt, found, nothing, refused}
 use Rattle.steps.specs.Tells.{Said, tells, passes}
 use Rattle.steps.specs.Passed.{Passed}
@@ -15,7 +16,10 @@ use Rattle.frame_walks.specs.Frames.{Carried, Shown, showing}
 use Rattle.fed_frames.specs.declared.FrameState.{FrameState}
 use Rattle.fed_frames.specs.declared.FedFrames.{FedFrames}
 use Rattle.fed_frames.specs.Frames.{FrameTaken, took_frames, FramesTold, carried_by, standing, on_said, on_fed, frames_at_most, raised, place_of, by_refusal, feed_frames}
-use Rattle.fed_frames.specs.Told.{frames_told, met_as, LeadsBy, Leads}
+use Rattle.fed_states.specs.declared.FedError.{FedError}
+use Rattle.fed_states.specs.declared.FedError.TheVariants.{TooMuch, Closed}
+use Rattle.fed_states.specs.Close.{refused_by}
+use Rattle.fed_frames.specs.Told.{frames_told, met_as, Leads}
 use Rattle.fed_frames.proofs.Laws.{shown-told, Ends, eats-ends}
 
 -- a walk whose rest of the piece fits by one limit fits by its own
@@ -49,7 +53,7 @@ module _ (w : FrameState) (piece : List ℕ) (i from : ℕ) (fits : Fits piece w
   -- a record: what is shown is the answer, another record is run through
   pub leads_record : (x : Passed Item) (s : State) (n high : ℕ) → high ≡ max w.high (from + n) → step ≡ found x (took s n) → (said : Said Carried (Passed Shown))
       → showing w.camera (carried_by w) x.it ≡ said → Leads w piece i from (met_as (up_to w s high) n said)
-  unfolding LeadsBy met_as on_fed on_said raised
+  unfolding Leads met_as on_fed on_said raised
   leads_record x s n high h e (tells b t) y = λ again. shown-told _ b ∙ rw (e, y, h)
   leads_record x s n high h e (passes t) y = let g = further piece w.state.limit (took w.state i) (took s n) x e fits in (λ again. rw (e, y), g.fits, g.more)
 
@@ -65,16 +69,16 @@ pub left-start : (w : FrameState) (piece : List ℕ) → Fits piece w.state.limi
 left-start w piece f = record { fits = f; fuel = suc (length piece); enough = omega arith; same = refl }
 
 module _ (w : FrameState) (piece : List ℕ) (s : State) (i from : ℕ) (left : Left w piece s i) (f : FedFrames) where
-  pub left_over : LeadsBy (standing w s) piece i from true f → frames_told f ≡ raised from (frames_at_most piece (suc (length piece)) (took_frames w 0))
-  unfolding LeadsBy frames_at_most
+  pub left_over : Leads (standing w s) piece i from (Break f) → frames_told f ≡ raised from (frames_at_most piece (suc (length piece)) (took_frames w 0))
+  unfolding Leads frames_at_most
   left_over l = go left.fuel left.enough ∙ ap (raised from) left.same
     where
       go : (fuel : ℕ) → length piece - i < fuel → frames_told f ≡ raised from (frames_at_most piece fuel (took_frames (standing w s) i))
       go zero h = absurd (omega arith)
       go (suc fuel) h = l (λ j. frames_at_most piece fuel j)
 
-  pub left_on : LeadsBy (standing w s) piece i from false f → Left w piece f.walk.state f.taken × (length piece - f.taken < length piece - i)
-  unfolding LeadsBy frames_at_most
+  pub left_on : Leads (standing w s) piece i from (Continue f) → Left w piece f.walk.state f.taken × (length piece - f.taken < length piece - i)
+  unfolding Leads frames_at_most
   left_on l = (go left.fuel left.enough left.same, omega (arith, l.2, l.1.most))
     where
       go : (fuel : ℕ) → length piece - i < fuel → frames_at_most piece fuel (took_frames (standing w s) i) ≡ frames_at_most piece (suc (length piece)) (took_frames w 0)
@@ -91,10 +95,10 @@ module _ (w : FrameState) (piece : List ℕ) (s : State) (i from : ℕ) (left : 
 -- A call by the number of its refusal
 
 module _ (w : FrameState) (piece : List ℕ) where
-  pub refused_so : (n : ℕ) → n ≡ refusal_of w.state (length piece) → (n ≡ 0 → ⊥) → refused n (took_frames w 0) ≡ feed_frames w piece
+  pub refused_so : (e : FedError) → refused_by e ≡ refusal_of w.state (length piece) → refused (refused_by e) (took_frames w 0) ≡ feed_frames w piece
   unfolding by_refusal
-  refused_so zero e h = absurd (h refl)
-  refused_so (suc n) e h = rw (sym e)
+  refused_so TooMuch x = rw (sym x)
+  refused_so Closed x = rw (sym x)
 
   pub fed_so : refusal_of w.state (length piece) ≡ 0 → raised (place_of w) (frames_at_most piece (suc (length piece)) (took_frames w 0)) ≡ feed_frames w piece
   unfolding by_refusal

@@ -6,7 +6,8 @@ use Rattle.steps.specs.Passed.{Passed}
 use Rattle.klv.specs.Item.{Item}
 use Rattle.fed_states.specs.declared.State.{State}
 use Rattle.fed_states.specs.State.{opened, gone_on}
-use Rattle.fed_states.specs.Close.{Rest, close_of}
+use Rattle.fed_states.specs.declared.Rest.{Rest}
+use Rattle.fed_states.specs.Close.{close_of}
 use Rattle.fed_bytes.specs.Feed.{Taken, took}
 use Rattle.fed_pieces.specs.Pieces.{refusal_of, feed_on}
 use Rattle.frame_walks.specs.declared.Camera.{Camera}

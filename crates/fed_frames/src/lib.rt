@@ -3,20 +3,20 @@
 // on come again.
 #![tactic(auto)]
 
-ghost use Rattle.std.specs.Prelude.{◌≡◌, ◌+◌, ◌≤◌, max, true, false, length};
+ghost use Rattle.std.specs.Prelude.{◌≡◌, ◌+◌, ◌≤◌, true, false, length};
 ghost use Rattle.klv.specs.Item.{past};
 ghost use Rattle.fed_bytes.specs.Feed.{took};
 ghost use Rattle.fed_pieces.specs.Pieces.{Fits};
 ghost use Rattle.frame_walks.specs.Frames.{carried, showing};
 ghost use Rattle.fed_frames.specs.Frames.{opened_frames, feed_frames, close_frames};
-ghost use Rattle.fed_frames.specs.Told.{frames_told, shut_told, met_as, Leads};
+ghost use Rattle.fed_frames.specs.Told.{feed_told, close_told, met_as, Leads};
 
-use fed::{Answer, feed as feed_records};
-use fed_pieces::refusal;
-use fed_states::{Ending, State, close as close_records, gone_on};
+use fed::feed as feed_records;
+use fed_pieces::admit;
+use fed_states::{FedError, Rest, State, close as close_records, gone_on};
 use frame_walks::{Camera, FrameElement, Kind, kind_of, longest_of};
 use klv::Klv;
-use parts::saturating_sub;
+use std::ops::ControlFlow;
 
 #[derive(Clone, Copy)]
 pub struct FrameState {
@@ -62,8 +62,6 @@ pub enum FrameAnswer {
     Frame(FrameElement, usize),
     // A value that is given beside the frames, Canon's alone, likewise.
     Given(Klv, usize),
-    // By this number: 2, the piece would pass the limit or the end; 5, the walk is closed.
-    Refused(u32),
 }
 
 // What feeding a piece comes to. The next byte is the one at the place where the walk of records then stands.
@@ -74,179 +72,112 @@ pub struct FedFrames {
     pub answer: FrameAnswer,
 }
 
-// What a walk makes of the rest of a piece up to a record: the call's answer, or the record is run through.
-#[derive(Clone, Copy)]
-pub struct Looked {
-    pub fed: FedFrames,
-    pub over: bool,
-}
-
-// The larger of two.
-fn larger(a: usize, b: usize) -> usize
-    ensures { result ≡ max a b }
-{
-    if a <= b { b } else { a }
-}
-
-// What a record is to a walk that stands behind it, and that last went on at `since`.
-fn met(w: FrameState, k: Klv, since: usize, taken: usize) -> Looked
+// What a record is to a walk that stands behind it, and that last went on at `since`: the call's answer, or the record is run
+// through.
+fn met(w: FrameState, k: Klv, since: usize, taken: usize) -> ControlFlow<FedFrames, FedFrames>
     requires { w.state.at ≡ past k }
     ensures { result ≡ met_as w taken (showing w.camera (carried since w.number) (record { klv = k; key = w.state.label })) }
 {
     let state = w.state;
-    let camera = w.camera;
-    let number = w.number;
     let label = state.label;
-    let passed = saturating_sub(k.at, since);
-    let kind = kind_of(camera, &label, k.len);
-    match kind {
+    let passed = k.at.saturating_sub(since);
+    match kind_of(w.camera, &label, k.len) {
         Kind::Frame => {
-            let after = std::num::wrapping_add_u64(number, 1);
-            let longest = longest_of(camera);
-            let overlong = longest < k.len;
+            let overlong = longest_of(w.camera) < k.len;
             let next = if overlong { k.value } else { state.at };
-            let walk = FrameState {
-                state: gone_on(state, next, label),
-                camera,
-                number: after,
-                high: w.high,
+            let frame = FrameElement {
+                number: w.number,
+                element: k,
+                overlong,
             };
-            let answer = FrameAnswer::Frame(
-                FrameElement {
-                    number,
-                    element: k,
-                    overlong,
+            ControlFlow::Break(FedFrames {
+                walk: FrameState {
+                    state: gone_on(state, next, label),
+                    number: std::num::wrapping_add_u64(w.number, 1),
+                    ..w
                 },
-                passed,
-            );
-            Looked {
-                fed: FedFrames {
-                    walk,
-                    taken,
-                    answer,
-                },
-                over: true,
-            }
-        }
-        Kind::Given => {
-            let walk = FrameState {
-                state: gone_on(state, state.at, label),
-                camera,
-                number,
-                high: w.high,
-            };
-            Looked {
-                fed: FedFrames {
-                    walk,
-                    taken,
-                    answer: FrameAnswer::Given(k, passed),
-                },
-                over: true,
-            }
-        }
-        Kind::Other => Looked {
-            fed: FedFrames {
-                walk: w,
                 taken,
-                answer: FrameAnswer::Nothing,
+                answer: FrameAnswer::Frame(frame, passed),
+            })
+        }
+        Kind::Given => ControlFlow::Break(FedFrames {
+            walk: FrameState {
+                state: gone_on(state, state.at, label),
+                ..w
             },
-            over: false,
-        },
+            taken,
+            answer: FrameAnswer::Given(k, passed),
+        }),
+        Kind::Other => ControlFlow::Continue(FedFrames {
+            walk: w,
+            taken,
+            answer: FrameAnswer::Nothing,
+        }),
     }
 }
 
 // What a walk makes of the bytes of a piece from i on, up to the one that completes a record. The piece started at the place `from`.
-fn look(w: FrameState, piece: &[u8], i: usize, from: usize) -> Looked
+fn look(w: FrameState, piece: &[u8], i: usize, from: usize) -> ControlFlow<FedFrames, FedFrames>
     requires fits { Fits piece.now w.state.limit (took w.state i) }
     requires piece_bound { from + length piece.now ≤ w.state.limit }
     ensures { Leads w piece.now i from result }
 {
-    let before = w.state;
-    let camera = w.camera;
-    let f = feed_records(before, &piece[i..]);
+    let f = feed_records(w.state, &piece[i..]).unwrap();
     let taken = i + f.taken;
-    let state = f.state;
     let walk = FrameState {
-        state,
-        camera,
-        number: w.number,
-        high: larger(w.high, from + taken),
+        state: f.state,
+        high: w.high.max(from + taken),
+        ..w
     };
-    let a = f.answer;
-    let Answer::Record(k, _) = a else {
-        return Looked {
-            fed: FedFrames {
-                walk,
-                taken,
-                answer: FrameAnswer::Nothing,
-            },
-            over: true,
-        };
-    };
-    met(walk, k, before.since, taken)
+    match f.found {
+        Some((k, _)) => met(walk, k, w.state.since, taken),
+        None => ControlFlow::Break(FedFrames {
+            walk,
+            taken,
+            answer: FrameAnswer::Nothing,
+        }),
+    }
 }
 
 // Takes the piece up to the byte that completes a frame, else all of it.
-pub fn feed(w: FrameState, piece: &[u8]) -> FedFrames
-    ensures { frames_told result ≡ feed_frames w piece.now }
+pub fn feed(w: FrameState, piece: &[u8]) -> Result<FedFrames, FedError>
+    ensures { feed_told w result ≡ feed_frames w piece.now }
 {
+    admit(w.state, piece.len())?;
+    let from = w.state.at + w.state.have;
     let mut s = w.state;
-    let camera = w.camera;
-    let no = refusal(s, piece.len());
-    if no != 0 {
-        return FedFrames {
-            walk: w,
-            taken: 0,
-            answer: FrameAnswer::Refused(no),
-        };
-    }
-    let from = s.at + s.have;
     let mut i = 0;
     loop {
-        let walk = FrameState {
-            state: s,
-            camera,
-            number: w.number,
-            high: w.high,
-        };
-        let l = look(walk, piece, i, from);
-        let f = l.fed;
-        if l.over {
-            return f;
+        match look(FrameState { state: s, ..w }, piece, i, from) {
+            ControlFlow::Break(f) => return Ok(f),
+            ControlFlow::Continue(f) => {
+                s = f.walk.state;
+                i = f.taken;
+            }
         }
-        let next = f.walk;
-        s = next.state;
-        i = f.taken;
     }
 }
 
-// What closing comes to.
+// What closing comes to: the walk, and a rest where a value misses bytes, as of a walk of records.
 #[derive(Clone, Copy)]
 pub struct ShutFrames {
     pub walk: FrameState,
-    pub ending: Ending,
+    pub rest: Option<Rest>,
 }
 
 // Closes the walk: refused before the bytes have come again up to where they had come.
-pub fn close(w: FrameState) -> ShutFrames
-    ensures { shut_told result ≡ close_frames w }
+pub fn close(w: FrameState) -> Result<ShutFrames, FedError>
+    ensures { close_told w result ≡ close_frames w }
 {
-    let st = w.state;
-    let camera = w.camera;
-    if st.have < saturating_sub(w.high, st.at) {
-        return ShutFrames {
-            walk: w,
-            ending: Ending::Refused,
-        };
+    if w.state.have < w.high.saturating_sub(w.state.at) {
+        return Err(FedError::Closed);
     }
-    let c = close_records(st);
-    let state = c.state;
-    let ending = c.ending;
-    let walk = FrameState {
-        state,
-        camera,
-        number: w.number,
-        high: w.high,
-    };
-    ShutFrames { walk, ending }
+    let c = close_records(w.state)?;
+    Ok(ShutFrames {
+        walk: FrameState {
+            state: c.state,
+            ..w
+        },
+        rest: c.rest,
+    })
 }

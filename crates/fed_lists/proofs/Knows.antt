@@ -1,4 +1,5 @@
 -- What a state keeps of the bytes that came, and that a byte more keeps it so. Assumes nothing.
+use Rattle.std.specs.Prelude.{Err, Ok, Result}
 use Prim.Native.Nat.{ℕ, ◌+◌, ◌-◌, ◌≤◌, ◌<◌, min}
 use mathlib.Core.Path.{◌≡◌, refl, sym, ap, ◌∙◌}
 use mathlib.Core.List.{List, ◌++◌}
@@ -11,8 +12,8 @@ use lib.Seq.{get_or-set_same, get_or-set_other, get_or-take, get_or-drop, ext_ge
 use Rattle.parts.proofs.Parts.{part_length, part_byte}
 use Rattle.labels.specs.Label.{key_at, key_start, label_at}
 use Rattle.lengths.specs.declared.Field.{Field}
-use Rattle.lengths.specs.declared.Length.{Length}
-use Rattle.lengths.specs.declared.Length.TheVariants.{Is, Cut, None}
+use Rattle.lengths.specs.declared.NoLength.{NoLength}
+use Rattle.lengths.specs.declared.NoLength.TheVariants.{Cut, Invalid}
 use Rattle.lengths.specs.Length.{length_at}
 use Rattle.lengths.proofs.Laws.{Case, c_past, c_short, c_none, c_cut, c_long, case, taken}
 use Rattle.lengths.proofs.Spans.{length-same, none-same}
@@ -55,10 +56,10 @@ knows_more st a y k =
 -- What it says of the bytes
 
 -- nine bytes are enough for a length, or for none
-nine-bytes : (x : List ℕ) → length x ≡ 9 → length_at x 0 ≡ Cut → ⊥
+nine-bytes : (x : List ℕ) → length x ≡ 9 → length_at x 0 ≡ Err Cut → ⊥
 nine-bytes x n e = go (length_at x 0) (case x 0) e
   where
-    go : (l : Length) → Case x 0 l → l ≡ Cut → ⊥
+    go : (l : Result Field NoLength) → Case x 0 l → l ≡ Err Cut → ⊥
     go l (c_past h) e = omega arith
     go l (c_short h b) e = let z : ◌≡◌ {A = ℕ} 0 1 = cc in omega arith
     go l (c_none h b) e = let z : ◌≡◌ {A = ℕ} 0 1 = cc in omega arith
@@ -93,7 +94,7 @@ module _ (st : State) (a : List ℕ) (k : Knows st a) where
   rest-length : length (drop (st.at + 16) a) ≡ length a - (st.at + 16)
   rest-length = length-drop (st.at + 16) a
 
-  pub length_known : (f : Field) → length_of st ≡ Is f → length_at a (st.at + 16) ≡ Is f
+  pub length_known : (f : Field) → length_of st ≡ Ok f → length_at a (st.at + 16) ≡ Ok f
   length_known f e =
       let c = come st f e in
       sym there ∙ length-same has (drop (st.at + 16) a) 0 f e
@@ -102,28 +103,28 @@ module _ (st : State) (a : List ℕ) (k : Knows st a) where
         equal = λ i x y. sym (has_byte i (omega (arith, c.behind)) (omega (arith, c.few)));
       })
 
-  pub none_known : length_of st ≡ None → 17 ≤ st.have → length_at a (st.at + 16) ≡ None
+  pub none_known : length_of st ≡ Err Invalid → 17 ≤ st.have → length_at a (st.at + 16) ≡ Err Invalid
   none_known e h =
       sym there ∙ none-same has (drop (st.at + 16) a) 0 e
       (record { there = omega (arith, rest-length, k.count); equal = λ i x y. sym (has_byte i (omega arith) (omega arith)) })
 
   -- and the other way, as far as the bytes have come
-  pub length_back : (f : Field) → length_at a (st.at + 16) ≡ Is f → 16 + f.size ≤ st.have → length_of st ≡ Is f
+  pub length_back : (f : Field) → length_at a (st.at + 16) ≡ Ok f → 16 + f.size ≤ st.have → length_of st ≡ Ok f
   length_back f e h =
       let t = taken a (st.at + 16) f e in
       length-same (drop (st.at + 16) a) has 0 f (there ∙ e)
       (record { there = omega (arith, has-length, t.most); equal = λ i x y. has_byte i (omega arith) (omega (arith, t.most)) })
 
-  pub none_back : length_at a (st.at + 16) ≡ None → 17 ≤ st.have → length_of st ≡ None
+  pub none_back : length_at a (st.at + 16) ≡ Err Invalid → 17 ≤ st.have → length_of st ≡ Err Invalid
   none_back e h =
       none-same (drop (st.at + 16) a) has 0 (there ∙ e)
       (record { there = omega (arith, has-length); equal = λ i x y. has_byte i (omega arith) (omega arith) })
 
   -- where the bytes end with those of the state, a length that is cut is cut there, too
-  pub cut_known : length_of st ≡ Cut → st.at + st.have ≡ length a → 16 ≤ st.have → length_at a (st.at + 16) ≡ Cut
+  pub cut_known : length_of st ≡ Err Cut → st.at + st.have ≡ length a → 16 ≤ st.have → length_at a (st.at + 16) ≡ Err Cut
   cut_known e all h = by_cases (dec_lt st.have 25) same (λ m. absurd (nine-bytes has (has-length ∙ omega arith) e))
     where
-      same : st.have < 25 → length_at a (st.at + 16) ≡ Cut
+      same : st.have < 25 → length_at a (st.at + 16) ≡ Err Cut
       same m =
           let x = has-length in
           let y = rest-length in

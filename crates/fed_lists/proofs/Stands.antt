@@ -1,4 +1,5 @@
 -- What a state knows of the walk: whatever comes, it goes on from the state's place. A byte more keeps it so. Assumes nothing.
+use Rattle.std.specs.Prelude.{Err, Ok}
 use Prim.Native.Nat.{ℕ, ◌+◌, ◌-◌, ◌≤◌, ◌<◌}
 use mathlib.Core.Path.{◌≡◌, refl, sym, ap, ◌∙◌}
 use mathlib.Core.List.{List, [], ◌∷◌, ◌++◌, append-nil, append_assoc}
@@ -10,7 +11,7 @@ use lib.ListN.{length, get_or, length-append, get_or-append}
 use Rattle.steps.specs.Told.{ToldAt, found, nothing, refused}
 use Rattle.labels.specs.Label.{key_at, key_start}
 use Rattle.lengths.specs.declared.Field.{Field}
-use Rattle.lengths.specs.declared.Length.TheVariants.{Is, None}
+use Rattle.lengths.specs.declared.NoLength.TheVariants.{Invalid}
 use Rattle.klv.specs.Item.{klv, past, Item}
 use Rattle.walk.specs.declared.Turn.TheVariants.{Stop}
 use Rattle.walk.specs.Rules.{rules}
@@ -34,7 +35,7 @@ use Rattle.fed_lists.proofs.Knows.{Knows, knows_more, key_known, label_known, le
 
 module _ (st : State) (a : List ℕ) (k : Knows st a) (rests : 17 ≤ st.have → Resting st) (b : ℕ) (more : st.at + st.have < length a) (is_b : get_or a (st.at + st.have) 0 ≡ b) where
   -- a length that is whole with this byte, or was before it
-  was_whole : 16 ≤ st.have → (f : Field) → length_of (behind st b) ≡ Is f → 16 + f.size ≤ st.have → length_of st ≡ Is f
+  was_whole : 16 ≤ st.have → (f : Field) → length_of (behind st b) ≡ Ok f → 16 + f.size ≤ st.have → length_of st ≡ Ok f
   was_whole h f l m = length_back st a k f (length_known (behind st b) a (knows_behind st a k b more is_b h) f l) m
 
   turned-place : (r : ToldAt State (Passed Item)) → 16 ≤ st.have → Turned (behind st b) r → (after r).at + (after r).have ≡ st.at + st.have + 1
@@ -45,14 +46,14 @@ module _ (st : State) (a : List ℕ) (k : Knows st a) (rests : 17 ≤ st.have �
       by_cases (dec_lt st.have 17) (λ m. omega arith)
       (λ m. absurd (go (rests (omega arith)) (none_back st a k (none_known (behind st b) a (knows_behind st a k b more is_b h) l (omega arith)) (omega arith))))
     where
-      go : Resting st → length_of st ≡ None → ⊥
+      go : Resting st → length_of st ≡ Err Invalid → ⊥
       go (for_length c) e = let z : ◌≡◌ {A = ℕ} 0 1 = cc in omega arith
       go (for_value f c m n) e = let z : ◌≡◌ {A = ℕ} 0 1 = cc in omega arith
   turned-place r h (whole f l m) =
       let c = come (behind st b) f l in
       by_cases (dec_lt st.have (16 + f.size)) (λ n. omega (arith, c.behind)) (λ n. go (rests (omega (arith, c.some))) (was_whole h f l (omega arith)))
     where
-      go : Resting st → length_of st ≡ Is f → st.at + 16 + f.size + f.value + 0 ≡ st.at + st.have + 1
+      go : Resting st → length_of st ≡ Ok f → st.at + 16 + f.size + f.value + 0 ≡ st.at + st.have + 1
       go (for_length c) e = absurd (let z : ◌≡◌ {A = ℕ} 0 1 = cc in omega arith)
       go (for_value g c x0 x1) e =
           let x : g.size ≡ f.size = cc in
@@ -62,7 +63,7 @@ module _ (st : State) (a : List ℕ) (k : Knows st a) (rests : 17 ≤ st.have �
       let c = come (behind st b) f l in
       by_cases (dec_lt st.have (16 + f.size)) (λ n. omega (arith, c.behind)) (λ n. absurd (go (rests (omega (arith, c.some))) (was_whole h f l (omega arith))))
     where
-      go : Resting st → length_of st ≡ Is f → ⊥
+      go : Resting st → length_of st ≡ Ok f → ⊥
       go (for_length c) e = let z : ◌≡◌ {A = ℕ} 0 1 = cc in omega arith
       go (for_value g c x0 x1) e =
           let x : g.size ≡ f.size = cc in
@@ -229,7 +230,7 @@ module _ (next : Item → ℕ) (on : Onward next) (most : (i : Item) → next i 
       has_room x = rw (length-append a x) (omega arith)
 
       -- a record
-      records-at : (f : Field) → length_of t ≡ Is f → f.value ≤ st.at + (st.have + 1) - (st.at + 16 + f.size) → (p : ℕ) → p ≡ next (record { klv = klv 16 st.at f; key = st.label })
+      records-at : (f : Field) → length_of t ≡ Ok f → f.value ≤ st.at + (st.have + 1) - (st.at + 16 + f.size) → (p : ℕ) → p ≡ next (record { klv = klv 16 st.at f; key = st.label })
           → Stands limit (gone_on st p st.label) a (out ++ (record { klv = klv 16 st.at f; key = st.label } ∷ []))
       records-at f l v p e =
           let i : Item = record { klv = klv 16 st.at f; key = st.label } in

@@ -1,4 +1,5 @@
 -- What closing says, and what is found from there on, of a walk that stands behind all bytes. Assumes nothing.
+use Rattle.std.specs.Prelude.{Err, Ok}
 use Prim.Native.Nat.{ℕ, ◌+◌, ◌-◌, ◌≤◌, ◌<◌}
 use mathlib.Core.Path.{◌≡◌, refl, sym, ap, ◌∙◌}
 use mathlib.Core.List.{List, [], ◌∷◌, ◌++◌, map, append-nil}
@@ -13,7 +14,7 @@ use Rattle.steps.specs.Told.{refused}
 use Rattle.parts.specs.Answer.{Answer, is, none}
 use Rattle.labels.specs.Label.{key_at}
 use Rattle.lengths.specs.declared.Field.{Field}
-use Rattle.lengths.specs.declared.Length.TheVariants.{Is, Cut}
+use Rattle.lengths.specs.declared.NoLength.TheVariants.{Cut}
 use Rattle.lengths.specs.Length.{length_at}
 use Rattle.lengths.proofs.Laws as lengths
 use Rattle.klv.specs.declared.Klv.{Klv}
@@ -37,11 +38,11 @@ use Rattle.fed_lists.proofs.Shift.{from-there}
 -- What is waited for
 
 module _ (limit : ℕ) (a : List ℕ) (w : ℕ) (h : 17 ≤ length a - w) (k : key_at a w ≡ true) where
-  awaited-cut : length_at a (w + 16) ≡ Cut → awaited limit a w ≡ none
+  awaited-cut : length_at a (w + 16) ≡ Err Cut → awaited limit a w ≡ none
   unfolding awaited awaited_length
   awaited-cut l = simp (le-ltb _ _ h, k, l)
 
-  awaited-value : (f : Field) → length_at a (w + 16) ≡ Is f → length a - (w + 16 + f.size) < f.value → w + 16 + f.size + f.value ≤ limit
+  awaited-value : (f : Field) → length_at a (w + 16) ≡ Ok f → length a - (w + 16 + f.size) < f.value → w + 16 + f.size + f.value ≤ limit
       → awaited limit a w ≡ is (klv 16 w f)
   unfolding awaited awaited_length awaited_value
   awaited-value f l m n = simp (le-ltb _ _ h, k, l, lt-leb _ _ m, le-leb _ _ n)
@@ -82,8 +83,8 @@ module _ (next : Item → ℕ) (on : Onward next) (most : (i : Item) → next i 
   -- where the state waits, by cases: near the end, for a length, or for a value
   data Place : Type 0 where
     near : st.have < 17 → Place
-    length_cut : 17 ≤ st.have → length_of st ≡ Cut → key_at a st.at ≡ true → length_at a (st.at + 16) ≡ Cut → Place
-    value-cut : 17 ≤ st.have → (f : Field) → length_of st ≡ Is f → key_at a st.at ≡ true → length_at a (st.at + 16) ≡ Is f
+    length_cut : 17 ≤ st.have → length_of st ≡ Err Cut → key_at a st.at ≡ true → length_at a (st.at + 16) ≡ Err Cut → Place
+    value-cut : 17 ≤ st.have → (f : Field) → length_of st ≡ Ok f → key_at a st.at ≡ true → length_at a (st.at + 16) ≡ Ok f
         → length a - (st.at + 16 + f.size) < f.value → st.at + 16 + f.size + f.value ≤ limit → Place
 
   place : Place
@@ -94,7 +95,7 @@ module _ (next : Item → ℕ) (on : Onward next) (most : (i : Item) → next i 
       go h (for_value f c m n) = value-cut h f c (key_known st a s.knows (omega arith)) (length_known st a s.knows f c) (omega (arith, full)) (omega (arith, s.same))
 
   -- nothing has come behind the label
-  no_length : st.have < 17 → length_of st ≡ Cut
+  no_length : st.have < 17 → length_of st ≡ Err Cut
   no_length h = let z : st.have - 16 ≡ 0 = omega arith in ap (λ (n : ℕ). length_at (take n st.ber) 0) z ∙ lengths.past [] 0 (omega arith)
 
   pub closing-is : ends_by st (length_of st) ≡ closing st a (awaited limit a (waits_from next on limit a 0))
@@ -102,8 +103,8 @@ module _ (next : Item → ℕ) (on : Onward next) (most : (i : Item) → next i 
   closing-is = go place ∙ ap (closing st a) (sym same-awaited)
     where
       go : Place → ends_by st (length_of st) ≡ closing st a (awaited limit a st.at)
-      go (near h) = rw (awaited-short limit a st.at (omega (arith, full))) (ends_clean st (length_of st) (inl (no_length h)))
-      go (length_cut h c k l) = rw (awaited-cut limit a st.at (omega (arith, full)) k l) (ends_clean st (length_of st) (inl c))
+      go (near h) = rw (awaited-short limit a st.at (omega (arith, full))) (ap (ends_by st) (no_length h) ∙ ends_clean st Cut)
+      go (length_cut h c k l) = rw (awaited-cut limit a st.at (omega (arith, full)) k l) (ap (ends_by st) c ∙ ends_clean st Cut)
       go (value-cut h f c k l m n) =
           let x : length a - (st.at + 16 + f.size) ≡ st.have - (16 + f.size) = omega (arith, full) in
           let y : st.at + 16 + f.size ≡ st.at + (16 + f.size) = omega arith in

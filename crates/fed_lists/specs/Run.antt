@@ -1,16 +1,17 @@
 -- What a fed walker has answered: docs/RULES.md, "L2. A walker fed from the socket".
-use Rattle.std.specs.Prelude.{ℕ, ◌+◌, ◌-◌, List, [], ◌∷◌, ◌++◌, map, Bool, cond, length, take, ltb, leb}
+use Rattle.std.specs.Prelude.{ℕ, ◌+◌, ◌-◌, List, [], ◌∷◌, ◌++◌, map, Bool, cond, length, take, ltb, leb, Err, Ok, Result}
 use Rattle.steps.specs.Told.{ToldAt, found, nothing, refused}
 use Rattle.parts.specs.Answer.{Answer, is, none}
 use Rattle.labels.specs.Label.{key_at}
-use Rattle.lengths.specs.declared.Length.{Length}
-use Rattle.lengths.specs.declared.Length.TheVariants.{Is, Cut, None}
+use Rattle.lengths.specs.declared.Field.{Field}
+use Rattle.lengths.specs.declared.NoLength.{NoLength}
+use Rattle.lengths.specs.declared.NoLength.TheVariants.{Cut, Invalid}
 use Rattle.lengths.specs.Length.{length_at}
 use Rattle.klv.specs.declared.Klv.{Klv}
 use Rattle.klv.specs.Item.{klv, past, Item}
 use Rattle.fed_states.specs.declared.State.{State}
 use Rattle.fed_states.specs.State.{opened, shut}
-use Rattle.fed_states.specs.Close.{Rest}
+use Rattle.fed_states.specs.declared.Rest.{Rest}
 use Rattle.steps.specs.Passed.{Passed}
 use Rattle.fed_bytes.specs.Feed.{after, feed_of}
 
@@ -43,10 +44,10 @@ moved_item v i = record { klv = moved_klv v i.klv; key = i.key }
 unfoldable pub awaited_value : ℕ → List ℕ → Klv → Answer Klv
 awaited_value limit a k = cond (leb k.len (length a - k.value)) none (cond (leb (past k) limit) (is k) none)
 
-unfoldable pub awaited_length : ℕ → List ℕ → ℕ → Length → Answer Klv
-awaited_length limit a w (Is f) = awaited_value limit a (klv 16 w f)
-awaited_length limit a w Cut = none
-awaited_length limit a w None = none
+unfoldable pub awaited_length : ℕ → List ℕ → ℕ → Result Field NoLength → Answer Klv
+awaited_length limit a w (Ok f) = awaited_value limit a (klv 16 w f)
+awaited_length limit a w (Err Cut) = none
+awaited_length limit a w (Err Invalid) = none
 
 unfoldable pub awaited : ℕ → List ℕ → ℕ → Answer Klv
 awaited limit a w = cond (ltb (length a - w) 17) none (cond (key_at a w) (awaited_length limit a w (length_at a (w + 16))) none)

@@ -1,25 +1,21 @@
 -- What feeding the rest of a piece said, as the code has it. Assumes nothing.
+use Rattle.std.specs.Prelude.{Option, Some, None, Result, Ok, Err, IsOk}
 use Prim.Native.Nat.{ℕ, ◌+◌, ◌-◌, ◌≤◌, ◌<◌}
 use mathlib.Core.Path.{◌≡◌, refl, sym, ap, ◌∙◌}
 use mathlib.Core.List.{List, [], ◌∷◌}
-use mathlib.Core.Logic.{⊎_elim}
 use native.Mathlib.Omega.{arith}
 use lib.ListN.{length, take, drop}
-use types.Run.{OneOf}
-use denote.Enum.Declared.{tag_of}
 use Rattle.steps.specs.Told.{found}
 use Rattle.steps.specs.Passed.{Passed}
 use Rattle.parts.proofs.Parts.{part_rest}
 use Rattle.klv.specs.declared.Klv.{Klv}
 use Rattle.klv.specs.Item.{Item}
 use Rattle.fed_states.specs.declared.State.{State}
+use Rattle.fed_states.specs.declared.FedError.{FedError}
 use Rattle.fed_states.specs.State.{gone_on}
 use Rattle.fed_bytes.specs.Feed.{Taken, took, feed_of}
-use Rattle.fed.specs.declared.Answer.{Answer}
-use Rattle.fed.specs.declared.Answer.TheVariants.{Nothing, Record, TooMuch, Closed}
 use Rattle.fed.specs.declared.Fed.{Fed}
-use Rattle.fed.specs.Told.{answer_told, fed_told}
-use Rattle.fed.specs.contracts.Answer.{the_type}
+use Rattle.fed.specs.Told.{found_told, fed_told, feed_told}
 use Rattle.fed_pieces.specs.Pieces.{behind, feed_on, Fits}
 use Rattle.fed_pieces.proofs.Laws as pieces
 use Rattle.fed_pieces.proofs.Laws.{fed, fed_record, fed-all}
@@ -34,30 +30,34 @@ module _ (piece : List ℕ) (s : State) (i : ℕ) (f : Fed) (is : fed_told f ≡
   unfolding feed_on
   told = ap (behind i) (is ∙ ap (feed_of s) (part_rest piece i))
 
-  pub told_record : (k : Klv) (n : ℕ) → f.answer ≡ Record k n → feed_on piece (took s i) ≡ found (record { it = record { klv = k; key = f.state.label }; passed = n }) next
+  pub told_record : (k : Klv) (n : ℕ) → f.found ≡ Some (k, n) → feed_on piece (took s i) ≡ found (record { it = record { klv = k; key = f.state.label }; passed = n }) next
   unfolding behind
   told_record k n a = sym told ∙ rw a
 
-  rests : (a : Answer) → OneOf (0 ∷ 2 ∷ 3 ∷ []) (tag_of the_type a) → Rests (behind i (answer_told f.state.label (took f.state f.taken) a)) next
+  rests : (a : Option (Klv × ℕ)) → a ≡ None → Rests (behind i (found_told f.state.label (took f.state f.taken) a)) next
   unfolding behind
-  rests Nothing o = refl
-  rests (Record k p) o = absurd (⊎_elim (λ e. omega arith) (⊎_elim (λ e. omega arith) (λ e. omega arith)) o)
-  rests TooMuch o = refl
-  rests Closed o = refl
+  rests a e = rw e refl
 
-  pub told_rests : OneOf (0 ∷ 2 ∷ 3 ∷ []) (tag_of the_type f.answer) → Rests (feed_on piece (took s i)) next
-  told_rests o = rw told at (rests f.answer o)
+  pub told_rests : f.found ≡ None → Rests (feed_on piece (took s i)) next
+  told_rests o = rw told at (rests f.found o)
 
   -- no more is taken than there is
   pub told-most : (limit : ℕ) → Fits piece limit (took s i) → i + f.taken ≤ length piece
   unfolding behind
-  told-most limit fits = go f.answer (rw (sym told) at (fed piece limit (took s i) fits))
+  told-most limit fits = go f.found (rw (sym told) at (fed piece limit (took s i) fits))
     where
-      go : (a : Answer) → pieces.Fed piece limit (took s i) (behind i (answer_told f.state.label (took f.state f.taken) a)) → i + f.taken ≤ length piece
-      go (Record k n) (fed_record x y z g) = g.most
-      go Nothing (fed-all e g) = g.most
-      go TooMuch x = elim x [ ]
-      go Closed x = elim x [ ]
+      go : (a : Option (Klv × ℕ)) → pieces.Fed piece limit (took s i) (behind i (found_told f.state.label (took f.state f.taken) a)) → i + f.taken ≤ length piece
+      go (Some (k, n)) (fed_record x y z g) = g.most
+      go None (fed-all e g) = g.most
+
+-- what is left of a piece is not refused
+pub told-ok : (piece : List ℕ) (s : State) (i limit : ℕ) (r : Result Fed FedError) → feed_told s r ≡ feed_of s (take (length piece - i) (drop i piece)) → Fits piece limit (took s i) → IsOk r
+unfolding feed_on behind
+told-ok piece s i limit r is fits = go r (rw (sym (ap (behind i) (is ∙ ap (feed_of s) (part_rest piece i)))) at (fed piece limit (took s i) fits))
+  where
+    go : (r : Result Fed FedError) → pieces.Fed piece limit (took s i) (behind i (feed_told s r)) → IsOk r
+    go (Ok f) x = refl
+    go (Err e) x = elim x [ ]
 
 -- a record, behind which what is left of the piece fits
 pub record Further (piece : List ℕ) (limit : ℕ) (k q : Taken) : Type 0 where

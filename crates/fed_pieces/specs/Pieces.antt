@@ -1,16 +1,23 @@
 -- The records of a piece: docs/RULES.md, "L2. A walker fed from the socket".
-use Rattle.std.specs.Prelude.{ℕ, suc, ◌+◌, ◌-◌, ◌≤◌, ◌≡◌, List, true, cond, length, drop, ltb}
+use Rattle.std.specs.Prelude.{ℕ, suc, ◌+◌, ◌-◌, ◌≤◌, ◌≡◌, List, true, cond, length, drop, ltb, Result, Ok, Err}
 use Rattle.steps.specs.Told.{ToldAt, found, nothing, refused}
 use Rattle.steps.specs.Passed.{Passed}
 use Rattle.steps.specs.Listed.{at_most, end_at_most}
 use Rattle.klv.specs.Item.{Item}
 use Rattle.fed_states.specs.declared.State.{State}
+use Rattle.fed_states.specs.declared.FedError.{FedError}
+use Rattle.fed_states.specs.Close.{refused_by}
 use Rattle.fed_states.specs.State.{sound_of}
 use Rattle.fed_bytes.specs.Feed.{Taken, took, feed_of}
 
 -- the number by which a piece of so many bytes is refused, 0 where it is taken
 unfoldable pub refusal_of : State → ℕ → ℕ
 refusal_of st len = cond (sound_of st) (cond (ltb (st.limit - (st.at + st.have)) len) 2 0) 5
+
+-- the number that an answer stands for
+abbrev pub refused_as : {A : Type 0} → Result A FedError → ℕ
+refused_as (Ok x) = 0
+refused_as (Err e) = refused_by e
 
 -- an answer, n bytes of the piece having been taken before
 unfoldable pub behind : ℕ → ToldAt Taken (Passed Item) → ToldAt Taken (Passed Item)

@@ -2,19 +2,19 @@
 #![tactic(auto)]
 
 ghost use Rattle.std.specs.Prelude.{◌≡◌};
-ghost use Rattle.fed_pieces.specs.Pieces.{refusal_of};
+ghost use Rattle.fed_pieces.specs.Pieces.{refusal_of, refused_as};
 
-use fed_states::{State, sound};
+use fed_states::{FedError, State, sound};
 
-// The number by which a piece of so many bytes is refused: 5 closed, 2 past the limit or the end; 0 where it is taken.
-pub fn refusal(st: State, len: usize) -> u32
-    ensures { result ≡ refusal_of st len }
+// Whether a piece of so many bytes may come: the walk is open, and they pass neither the limit nor the end.
+pub fn admit(st: State, len: usize) -> Result<(), FedError>
+    ensures { refused_as result ≡ refusal_of st len }
 {
     if !sound(st) {
-        return 5;
+        return Err(FedError::Closed);
     }
     if st.limit - (st.at + st.have) < len {
-        return 2;
+        return Err(FedError::TooMuch);
     }
-    0
+    Ok(())
 }

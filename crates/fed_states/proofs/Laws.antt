@@ -1,8 +1,9 @@
 -- Laws of the definitions of `specs/`. Assumes nothing.
-use Prim.Native.Nat.{ℕ, ◌+◌, ◌-◌, ◌≤◌, ◌<◌}
-use mathlib.Core.Path.{◌≡◌, refl}
+use Rattle.std.specs.Prelude.{Option, Some, None, Result, Ok, Err}
+use Prim.Native.Nat.{ℕ, zero, suc, ◌+◌, ◌-◌, ◌≤◌, ◌<◌}
+use mathlib.Core.Path.{◌≡◌, refl, sym, ap, ◌∙◌}
 use mathlib.Core.Bool.{Bool, true, false, ◌&&◌, false≢true}
-use mathlib.Core.Logic.{by_cases, ◌⊎◌, ⊎_elim}
+use mathlib.Core.Logic.{by_cases}
 use native.Mathlib.Decide.{dec_lt}
 use native.Mathlib.Omega.{arith}
 use mathlib.Core.List.{List}
@@ -12,15 +13,16 @@ use borrow.Author.Tests.{le-ltb, lt-ltb, le-leb, lt-leb, leb-true}
 use Rattle.steps.specs.Told.{found, nothing, refused}
 use Rattle.labels.specs.Label.{label_at}
 use Rattle.lengths.specs.declared.Field.{Field}
-use Rattle.lengths.specs.declared.Length.{Length}
-use Rattle.lengths.specs.declared.Length.TheVariants.{Is, Cut, None}
+use Rattle.lengths.specs.declared.NoLength.{NoLength}
+use Rattle.lengths.specs.declared.NoLength.TheVariants.{Cut, Invalid}
 use Rattle.lengths.proofs.Laws.{taken}
 use Rattle.fed_states.specs.declared.State.{State}
 use Rattle.fed_states.specs.declared.Shut.{Shut}
-use Rattle.fed_states.specs.declared.Ending.{Ending}
-use Rattle.fed_states.specs.declared.Ending.TheVariants.{Clean, Again, Refused}
+use Rattle.fed_states.specs.declared.FedError.{FedError}
+use Rattle.fed_states.specs.declared.FedError.TheVariants.{TooMuch, Closed}
 use Rattle.fed_states.specs.State.{shut, whole_label, length_of, sound_of}
-use Rattle.fed_states.specs.Close.{Rest, ending_told, shut_told, ends_by, close_of}
+use Rattle.fed_states.specs.declared.Rest.{Rest}
+use Rattle.fed_states.specs.Close.{rest_told, close_told, ends_by, close_of}
 
 -- Both of two tests
 
@@ -38,7 +40,7 @@ pub record Come (st : State) (size : ℕ) : Type 0 where
   pub few : size ≤ 9
   pub behind : 16 + size ≤ st.have
 
-pub come : (st : State) (f : Field) → length_of st ≡ Is f → Come st f.size
+pub come : (st : State) (f : Field) → length_of st ≡ Ok f → Come st f.size
 come st f l =
     let t = taken (take (st.have - 16) st.ber) 0 f l in
     let n = length-take (st.have - 16) st.ber in
@@ -87,13 +89,14 @@ module _ (s : List ℕ) (at : ℕ) where
 -- Closing
 
 module _ (st : State) where
-  pub ends_is : (f : Field) → ends_by st (Is f) ≡ found (record { from = st.at + (16 + f.size); end = st.have - (16 + f.size) }) (shut st)
+  pub ends_is : (f : Field) → ends_by st (Ok f) ≡ found (record { from = st.at + (16 + f.size); end = st.have - (16 + f.size) }) (shut st)
   unfolding ends_by
   ends_is f = refl
 
-  pub ends_clean : (l : Length) → (l ≡ Cut) ⊎ (l ≡ None) → ends_by st l ≡ nothing (shut st)
+  pub ends_clean : (e : NoLength) → ends_by st (Err e) ≡ nothing (shut st)
   unfolding ends_by
-  ends_clean l h = ⊎_elim (λ e. rw e) (λ e. rw e) h
+  ends_clean Cut = refl
+  ends_clean Invalid = refl
 
   pub close-refused : sound_of st ≡ false → close_of st ≡ refused 5 st
   unfolding close_of
@@ -111,21 +114,3 @@ module _ (st : State) where
     pub close-end : st.known ≡ true → st.limit ≤ st.at + st.have → close_of st ≡ ends_by st (length_of st)
     unfolding close_of
     close-end k h = rw (s, k, le-ltb _ _ h)
-
--- two closings that say the same are the same
-pub shut_once : (a b : Shut) → shut_told a ≡ shut_told b → a ≡ b
-shut_once a b = go a.state b.state a.ending b.ending
-  where
-    go : (s t : State) (x y : Ending) → ending_told s x ≡ ending_told t y → ◌≡◌ {A = Shut} (record { state = s; ending = x }) (record { state = t; ending = y })
-    go s t Clean Clean e = cc
-    go s t (Again v n) (Again w m) e =
-        let x : ◌≡◌ {A = Rest} (record { from = v; end = n }) (record { from = w; end = m }) = cc in
-        let y : s ≡ t = cc in
-        λ i. record { state = y i; ending = Again (x i).from (x i).end }
-    go s t Refused Refused e = cc
-    go s t Clean (Again w m) e = absurd (let z : ◌≡◌ {A = ℕ} 0 1 = cc in omega arith)
-    go s t Clean Refused e = absurd (let z : ◌≡◌ {A = ℕ} 0 1 = cc in omega arith)
-    go s t (Again v n) Clean e = absurd (let z : ◌≡◌ {A = ℕ} 0 1 = cc in omega arith)
-    go s t (Again v n) Refused e = absurd (let z : ◌≡◌ {A = ℕ} 0 1 = cc in omega arith)
-    go s t Refused Clean e = absurd (let z : ◌≡◌ {A = ℕ} 0 1 = cc in omega arith)
-    go s t Refused (Again w m) e = absurd (let z : ◌≡◌ {A = ℕ} 0 1 = cc in omega arith)

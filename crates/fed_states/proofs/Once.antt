@@ -1,26 +1,35 @@
 -- Two closings that say the same are the same. Assumes nothing.
-use Prim.Native.Nat.{ℕ}
-use mathlib.Core.Path.{◌≡◌}
-use native.Mathlib.Omega.{arith}
+use Rattle.std.specs.Prelude.{Option, Some, None, Result, Ok, Err}
+use Prim.Native.Nat.{ℕ, zero, suc}
+use mathlib.Core.Path.{◌≡◌, refl, sym, ap, ◌∙◌}
+use Rattle.steps.specs.Told.{ToldAt, found, nothing, refused}
 use Rattle.fed_states.specs.declared.State.{State}
 use Rattle.fed_states.specs.declared.Shut.{Shut}
-use Rattle.fed_states.specs.declared.Ending.{Ending}
-use Rattle.fed_states.specs.declared.Ending.TheVariants.{Clean, Again, Refused}
-use Rattle.fed_states.specs.Close.{Rest, ending_told, shut_told}
+use Rattle.fed_states.specs.declared.Rest.{Rest}
+use Rattle.fed_states.specs.declared.FedError.{FedError}
+use Rattle.fed_states.specs.declared.FedError.TheVariants.{TooMuch, Closed}
+use Rattle.fed_states.specs.Close.{rest_told, close_told}
 
-once : (s t : State) (a b : Ending) → ending_told s a ≡ ending_told t b → ◌≡◌ {A = Shut} (record { state = s; ending = a }) (record { state = t; ending = b })
-once s t (Again v m) (Again w n) e =
-    let c : s ≡ t = cc in
-    let x : ◌≡◌ {A = Rest} (record { from = v; end = m }) (record { from = w; end = n }) = cc in
-    λ i. record { state = c i; ending = Again (x i).from (x i).end }
-once s t (Again v m) Clean e = absurd (let z : ◌≡◌ {A = ℕ} 0 1 = cc in omega arith)
-once s t (Again v m) Refused e = absurd (let z : ◌≡◌ {A = ℕ} 0 1 = cc in omega arith)
-once s t Clean (Again w n) e = absurd (let z : ◌≡◌ {A = ℕ} 0 1 = cc in omega arith)
-once s t Clean Clean e = let c : s ≡ t = cc in λ i. record { state = c i; ending = Clean }
-once s t Clean Refused e = absurd (let z : ◌≡◌ {A = ℕ} 0 1 = cc in omega arith)
-once s t Refused (Again w n) e = absurd (let z : ◌≡◌ {A = ℕ} 0 1 = cc in omega arith)
-once s t Refused Clean e = absurd (let z : ◌≡◌ {A = ℕ} 0 1 = cc in omega arith)
-once s t Refused Refused e = let c : s ≡ t = cc in λ i. record { state = c i; ending = Refused }
+pub shut_once : (st : State) (a b : Result Shut FedError) → close_told st a ≡ close_told st b → a ≡ b
+shut_once st a b x = back a ∙ ap answer x ∙ sym (back b)
+  where
+    -- what is said gives the answer back
+    error : ℕ → FedError
+    error zero = TooMuch
+    error (suc zero) = TooMuch
+    error (suc (suc zero)) = TooMuch
+    error (suc (suc (suc n))) = Closed
 
-pub shut_once : (x y : Shut) → shut_told x ≡ shut_told y → x ≡ y
-shut_once x y e = once x.state y.state x.ending y.ending e
+    answer : ToldAt State Rest → Result Shut FedError
+    answer (found r s) = Ok (record { state = s; rest = Some r })
+    answer (nothing s) = Ok (record { state = s; rest = None })
+    answer (refused n s) = Err (error n)
+
+    whole : (t : State) (r : Option Rest) → Ok (record { state = t; rest = r }) ≡ answer (rest_told t r)
+    whole t (Some r) = refl
+    whole t None = refl
+
+    back : (a : Result Shut FedError) → a ≡ answer (close_told st a)
+    back (Ok s) = whole s.state s.rest
+    back (Err TooMuch) = refl
+    back (Err Closed) = refl

@@ -1,7 +1,8 @@
 -- A fed walker's state: docs/RULES.md, "L2. A walker fed from the socket".
-use Rattle.std.specs.Prelude.{ℕ, ◌+◌, ◌-◌, List, [], ◌∷◌, Bool, true, false, cond, ◌&&◌, length, take, replicate, leb}
+use Rattle.std.specs.Prelude.{ℕ, ◌+◌, ◌-◌, List, [], ◌∷◌, Bool, true, false, cond, ◌&&◌, length, take, replicate, leb, Result}
 use Rattle.labels.specs.Label.{label_at}
-use Rattle.lengths.specs.declared.Length.{Length}
+use Rattle.lengths.specs.declared.Field.{Field}
+use Rattle.lengths.specs.declared.NoLength.{NoLength}
 use Rattle.lengths.specs.Length.{length_at}
 use Rattle.fed_states.specs.declared.State.{State}
 
@@ -33,7 +34,7 @@ unfoldable pub whole_label : List ℕ → ℕ → List ℕ
 whole_label s at = cond (leb (at + 16) (length s)) (label_at s at) (replicate 16 0)
 
 -- the length behind the label, as far as it has come
-abbrev pub length_of : State → Length
+abbrev pub length_of : State → Result Field NoLength
 length_of st = length_at (take (st.have - 16) st.ber) 0
 
 -- open, and within its limit

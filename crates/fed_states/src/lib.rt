@@ -4,11 +4,11 @@
 
 ghost use Rattle.std.specs.Prelude.{◌≡◌, true, false, ◌+◌, ◌≤◌};
 ghost use Rattle.fed_states.specs.State.{opened, sought, gone_on, shut, whole_label, length_of, sound_of};
-ghost use Rattle.fed_states.specs.Close.{ending_told, shut_told, ends_by, close_of};
+ghost use Rattle.fed_states.specs.Close.{rest_told, close_told, ends_by, close_of};
 
-use lengths::Length;
-use parts::saturating_sub;
+use lengths::{Field, NoLength};
 
+// A walk as it is between two pieces.
 #[derive(Clone, Copy)]
 pub struct State {
     // How many bytes may come.
@@ -27,6 +27,9 @@ pub struct State {
     pub ber: [u8; 9],
 }
 
+// A label of which no more is known than its start.
+const NO_LABEL: [u8; 16] = *b"\x06\x0e\x2b\x34\0\0\0\0\0\0\0\0\0\0\0\0";
+
 // A walk of so many bytes: at most, or exactly.
 fn open(limit: usize, known: bool) -> State
     ensures { result ≡ opened limit known }
@@ -38,7 +41,7 @@ fn open(limit: usize, known: bool) -> State
         at: 0,
         have: 0,
         since: 0,
-        label: [0x06, 0x0e, 0x2b, 0x34, 0, 0, 0, 0, 0, 0, 0, 0, 0, 0, 0, 0],
+        label: NO_LABEL,
         ber: [0; 9],
     }
 }
@@ -62,14 +65,11 @@ pub fn sought(st: State, at: usize, have: usize) -> State
     ensures { result ≡ sought st at have }
 {
     State {
-        limit: st.limit,
-        known: st.known,
-        live: st.live,
         at,
         have,
-        since: st.since,
-        label: [0x06, 0x0e, 0x2b, 0x34, 0, 0, 0, 0, 0, 0, 0, 0, 0, 0, 0, 0],
+        label: NO_LABEL,
         ber: [0; 9],
+        ..st
     }
 }
 
@@ -78,14 +78,12 @@ pub fn gone_on(st: State, at: usize, label: [u8; 16]) -> State
     ensures { result ≡ gone_on st at label }
 {
     State {
-        limit: st.limit,
-        known: st.known,
-        live: st.live,
         at,
         have: 0,
         since: at,
         label,
         ber: [0; 9],
+        ..st
     }
 }
 
@@ -100,20 +98,16 @@ pub fn label_at(s: &[u8], at: usize) -> [u8; 16]
     if s.len() - 16 < at {
         return label;
     }
-    let mut n = 0;
-    while n < 16 {
-        label[n] = s[at + n];
-        n += 1;
-    }
+    label.copy_from_slice(&s[at..at + 16]);
     label
 }
 
 // The length behind the label, as far as it has come.
-pub fn length_of(st: State) -> Length
+pub fn length_of(st: State) -> Result<Field, NoLength>
     ensures { result ≡ length_of st }
 {
     let ber = st.ber;
-    let n = saturating_sub(st.have, 16);
+    let n = st.have.saturating_sub(16);
     lengths::read(parts::part(&ber, 0, n), 0)
 }
 
@@ -130,61 +124,57 @@ pub fn sound(st: State) -> bool
     st.have <= st.limit - st.at
 }
 
-// What closing says.
-#[derive(Clone, Copy)]
-pub enum Ending {
-    // The finished list of the bytes that came is out.
-    Clean,
-    // A value is missing bytes: a new walk is to be fed from this place on, its known end so many bytes.
-    Again(usize, usize),
-    // Refusal 5: the walk is closed, or its known end has not come.
-    Refused,
+// Why a call on a fed walk is refused.
+#[derive(Clone, Copy, Debug, PartialEq, Eq)]
+pub enum FedError {
+    // 2: the piece would pass the limit or the end.
+    TooMuch,
+    // 5: the walk is closed, or its known end has not come.
+    Closed,
 }
 
-// What closing comes to.
+// Where a new walk is to be fed from, and its known end.
+#[derive(Clone, Copy, Debug, PartialEq, Eq)]
+pub struct Rest {
+    pub from: usize,
+    pub end: usize,
+}
+
+// What closing comes to: the state, and a rest where a value misses bytes. Where there is none, the finished list of the bytes
+// that came is out.
 #[derive(Clone, Copy)]
 pub struct Shut {
     pub state: State,
-    pub ending: Ending,
+    pub rest: Option<Rest>,
 }
 
-// How a state ends that is within its limit: in a value, with its start and how many of its bytes have come.
-fn ends(st: State) -> Ending
+// The rest of a state that is within its limit: in a value, its start and how many of its bytes have come.
+fn rest_of(st: State) -> Option<Rest>
     requires { st.at + st.have ≤ st.limit }
-    ensures { ending_told (shut st) result ≡ ends_by st (length_of st) }
+    ensures { rest_told (shut st) result ≡ ends_by st (length_of st) }
 {
-    let l = length_of(st);
-    let Length::Is(f) = l else {
-        return Ending::Clean;
+    let Ok(f) = length_of(st) else {
+        return None;
     };
     let behind = 16 + f.size;
-    let v = st.at + behind;
-    let rest = st.have - behind;
-    Ending::Again(v, rest)
+    Some(Rest {
+        from: st.at + behind,
+        end: st.have - behind,
+    })
 }
 
 // Closes the walk: its list is out, or a new walk is to be fed.
-pub fn close(st: State) -> Shut
-    ensures { shut_told result ≡ close_of st }
+pub fn close(st: State) -> Result<Shut, FedError>
+    ensures { close_told st result ≡ close_of st }
 {
     if !sound(st) {
-        return Shut {
-            state: st,
-            ending: Ending::Refused,
-        };
+        return Err(FedError::Closed);
     }
-    if st.known {
-        if st.at + st.have < st.limit {
-            return Shut {
-                state: st,
-                ending: Ending::Refused,
-            };
-        }
+    if st.known && st.at + st.have < st.limit {
+        return Err(FedError::Closed);
     }
-    let mut s = st;
-    s.live = false;
-    Shut {
-        state: s,
-        ending: ends(st),
-    }
+    Ok(Shut {
+        state: State { live: false, ..st },
+        rest: rest_of(st),
+    })
 }

@@ -4,7 +4,7 @@ use Rattle.steps.specs.Told.{ToldAt, found, nothing, refused}
 use Rattle.text.specs.Write.{decimal_of}
 use Rattle.listing.specs.Listing.{record_lines}
 use Rattle.fed_states.specs.declared.State.{State}
-use Rattle.fed_states.specs.Close.{Rest}
+use Rattle.fed_states.specs.declared.Rest.{Rest}
 use Rattle.fed_pieces.specs.Pieces.{all, records_of}
 
 -- a line for each record of a piece

@@ -1,5 +1,6 @@
 -- A frame walk's step from what it makes of one record: it stops there, passes it, or rests. Assumes nothing.
-use Rattle.std.proofs.Common.{◌≡◌, ℕ, ◌-◌, ◌<◌, ◌≤◌, max, Bool, true, false, cond, ltb, List, length, refl, ap, arith, ltb-false}
+use Rattle.frame_walks.specs.declared.FrameStep.{FrameStep}
+use Rattle.std.proofs.Common.{sym, ◌≡◌, ℕ, ◌-◌, ◌<◌, ◌≤◌, max, Bool, true, false, cond, ltb, List, length, refl, ap, arith, ltb-false, Result, Ok, Err, IsOk}
 use Rattle.steps.specs.Told.{Told, found, nothing, refused}
 use Rattle.steps.specs.Tells.{Said, tells, passes, state_of}
 use Rattle.steps.specs.Next.{Cursor, cursor}
@@ -16,7 +17,12 @@ use Rattle.walk.specs.declared.Way.TheVariants.{Finished, Arriving}
 use Rattle.walk.specs.Walk.{walked, finished_after, finished_by, arriving_after, arriving_by}
 use Rattle.walk.specs.Passed as passes-by
 use Rattle.walk.specs.Passed.{last_on}
-use Rattle.walk.specs.Told.{refusal, step_on}
+use Rattle.walk.specs.declared.WalkError.{WalkError}
+use Rattle.walk.specs.declared.WalkError.TheVariants.{ShortBuffer, OverLimit}
+use Rattle.walk.specs.declared.Step.{Step}
+use Rattle.walk.specs.Ways.{bounds_of}
+use Rattle.walk.specs.Told.{refusal, refused_by, step_on}
+use Rattle.walk.specs.Told as walks
 use Rattle.walk.proofs.Answers.{finished_never, arriving_never, finished-counts, finished_rests, finished_loses, arriving-counts, arriving_rests, arriving_loses}
 use Rattle.records.proofs.Lists as lists
 use Rattle.records.proofs.Lists.{found-next, finished-says, arriving-says}
@@ -24,8 +30,8 @@ use Rattle.frame_walks.specs.declared.Kind.{Kind}
 use Rattle.frame_walks.specs.declared.Kind.TheVariants as kinds
 use Rattle.frame_walks.specs.declared.Camera.{Camera}
 use Rattle.frame_walks.specs.declared.Place.{Place}
-use Rattle.frame_walks.specs.declared.Looked.{Looked}
-use Rattle.frame_walks.specs.declared.Looked.TheVariants as looked
+use Rattle.std.specs.declared.ops.ControlFlow.{ControlFlow}
+use Rattle.std.specs.declared.ops.ControlFlow.TheVariants.{Break, Continue}
 use Rattle.frame_walks.specs.declared.FrameStep.TheVariants as step
 use Rattle.frame_walks.specs.Kinds.{kind, longest_of, is_frame, goes_on_at}
 use Rattle.frame_walks.specs.Frames.{Carried, carried, Shown, framed, given, after, showing_as, showing, as_counted, record_on, end_on, next, beyond, frame_step}
@@ -36,17 +42,17 @@ use Rattle.frame_walks.proofs.Laws.{goes-onward}
 
 module _ (c : Camera) (k : Place) (i : Item) (m : ℕ) (counts : m ≡ i.klv.at - k.since) where
   pub met_frame : kind c i ≡ kinds.Frame → (q : ℕ) (b : Bool) → b ≡ ltb (longest_of c) i.klv.len → q ≡ cond b i.klv.value (past i.klv)
-      → looked.Found (step.Frame (record { number = k.number; element = i.klv; overlong = b }) m (place q (carried q (after k.number))))
+      → Break (step.Frame (record { number = k.number; element = i.klv; overlong = b }) m (place q (carried q (after k.number))))
       ≡ said_as (goes_on_at c i) (showing c (carried_by k) i)
   unfolding said_as shown_as showing showing_as is_frame goes_on_at
   met_frame x q b o v = rw (counts, v, o) (simp x)
 
   module _ (q : ℕ) (ends : q ≡ past i.klv) where
-    pub met_given : kind c i ≡ kinds.Given → looked.Found (step.Given i.klv m (place q (carried q k.number))) ≡ said_as (goes_on_at c i) (showing c (carried_by k) i)
+    pub met_given : kind c i ≡ kinds.Given → Break (step.Given i.klv m (place q (carried q k.number))) ≡ said_as (goes_on_at c i) (showing c (carried_by k) i)
     unfolding said_as shown_as showing showing_as is_frame goes_on_at
     met_given x = rw (counts, ends) (simp x)
 
-    pub met_other : kind c i ≡ kinds.Other → looked.Pass (place q (carried q k.number)) ≡ said_as (goes_on_at c i) (showing c (carried_by k) i)
+    pub met_other : kind c i ≡ kinds.Other → Continue (place q (carried q k.number)) ≡ said_as (goes_on_at c i) (showing c (carried_by k) i)
     unfolding said_as showing showing_as is_frame goes_on_at
     met_other x = rw ends (simp x)
 
@@ -61,12 +67,40 @@ module _ (c : Camera) (i : Item) where
       go kinds.Given = refl
       go kinds.Other = refl
 
+-- What is beyond a walk's bounds
+
+beyond_by : (w : Way) (s : List ℕ) (e : WalkError) → bounds_of w s ≡ Err e → (beyond w s ≡ true) × (refused_by e ≡ refusal w)
+unfolding bounds_of beyond refusal
+beyond_by (Finished end) s e b = go (ltb (length s) end) refl
+  where
+    go : (x : Bool) → ltb (length s) end ≡ x → (ltb (length s) end ≡ true) × (refused_by e ≡ 1)
+    go true h = (h, let z : ShortBuffer ≡ e = cc in rw (sym z) refl)
+    go false h = absurd (let z : ◌≡◌ {A = ℕ} 0 1 = cc in omega arith)
+beyond_by (Arriving most) s e b = go (ltb most (length s)) refl
+  where
+    go : (x : Bool) → ltb most (length s) ≡ x → (ltb most (length s) ≡ true) × (refused_by e ≡ 2)
+    go true h = (h, let z : OverLimit ≡ e = cc in rw (sym z) refl)
+    go false h = absurd (let z : ◌≡◌ {A = ℕ} 0 1 = cc in omega arith)
+
+pub not-beyond : (w : Way) (s : List ℕ) (x : ℕ × ℕ) → bounds_of w s ≡ Ok x → beyond w s ≡ false
+unfolding bounds_of beyond
+not-beyond (Finished end) s x b = go (ltb (length s) end) refl
+  where
+    go : (y : Bool) → ltb (length s) end ≡ y → ltb (length s) end ≡ false
+    go true h = absurd (let z : ◌≡◌ {A = ℕ} 0 1 = cc in omega arith)
+    go false h = h
+not-beyond (Arriving most) s x b = go (ltb most (length s)) refl
+  where
+    go : (y : Bool) → ltb most (length s) ≡ y → ltb most (length s) ≡ false
+    go true h = absurd (let z : ◌≡◌ {A = ℕ} 0 1 = cc in omega arith)
+    go false h = h
+
 -- A step is refused, or is the next of what is shown
 
 module _ (c : Camera) (w : Way) (s : List ℕ) where
-  pub frame_refused : (k : Place) → beyond w s ≡ true → told (refusal w) (place_at k) step.Refused ≡ frame_step c w s (place_at k)
+  pub frame_refused : (k : Place) (e : WalkError) → bounds_of w s ≡ Err e → told (place_at k) (Err e) ≡ frame_step c w s (place_at k)
   unfolding told frame_step
-  frame_refused k h = rw h
+  frame_refused k e b = let x = beyond_by w s e b in rw (x.0, x.1)
 
   pub frame-within : beyond w s ≡ false → (k : Cursor Carried) → frame_step c w s k ≡ next c w s (as_counted k)
   unfolding frame_step
@@ -138,41 +172,45 @@ module _ (c : Camera) (w : Way) (s : List ℕ) (h : beyond w s ≡ false) (k : C
       go (find r a b) = absurd (let z : ◌≡◌ {A = ℕ} 0 1 = cc in omega arith)
       go (rest r a b) = let z : q ≡ cursor r (last_on k) = cc in rw z (b, refl)
 
-  pub never_so : (n : ℕ) (q : Cursor ℕ) → refused n q ≡ step_on w s k → ⊥
+  never_so : (n : ℕ) (q : Cursor ℕ) → refused n q ≡ step_on w s k → ⊥
   never_so n q x = go (turned c w s h k)
     where
       go : Turned c w s k → ⊥
       go (find r a b) = let z : ◌≡◌ {A = ℕ} 0 1 = cc in omega arith
       go (rest r a b) = let z : ◌≡◌ {A = ℕ} 0 1 = cc in omega arith
 
+  pub ok_so : (r : Result Step WalkError) → walks.told s k r ≡ step_on w s k → IsOk r
+  ok_so (Ok x) e = refl
+  ok_so (Err x) e = absurd (never_so _ _ e)
+
 module _ (c : Camera) (w : Way) (s : List ℕ) where
   -- what was looked at leads on, or is the answer
-  unfoldable pub Leads : Place → Looked → Type 0
-  Leads k (looked.Pass q) = (next c w s (place_at k) ≡ next c w s (place_at q)) × (k.at < q.at) × (k.at < end_on w s) × (q.since ≤ q.at)
-  Leads k (looked.Found f) = (n : ℕ) (from : Place) → told n (place_at from) f ≡ next c w s (place_at k)
+  unfoldable pub Leads : Place → ControlFlow FrameStep Place → Type 0
+  Leads k (Continue q) = (next c w s (place_at k) ≡ next c w s (place_at q)) × (k.at < q.at) × (k.at < end_on w s) × (q.since ≤ q.at)
+  Leads k (Break f) = (from : Place) → told (place_at from) (Ok f) ≡ next c w s (place_at k)
 
   leads : (k : Place) → Leads k (looked_as c k (record_on c w s k.at))
   unfolding Leads looked_as said_as shown_as told state_of
   leads k = go (record_on c w s k.at) refl
     where
-      shown-told : (m : ℕ) (from : Place) (q : ℕ) (t : Carried) (n : ℕ) (b : Shown) → told m (place_at from) (shown_as (place q t) n b) ≡ found (record { it = b; passed = n }) (cursor q t)
-      shown-told m from q t n (framed f) = refl
-      shown-told m from q t n (given v) = refl
+      shown-told : (from : Place) (q : ℕ) (t : Carried) (n : ℕ) (b : Shown) → told (place_at from) (Ok (shown_as (place q t) n b)) ≡ found (record { it = b; passed = n }) (cursor q t)
+      shown-told from q t n (framed f) = refl
+      shown-told from q t n (given v) = refl
 
       passes_on : (i : Item) (q : ℕ) (t : Carried) → record_on c w s k.at ≡ found i q → showing c (carried_by k) i ≡ passes t → t.since ≤ q
       passes_on i q t x y = omega (arith, record_goes c w s k.at i q x, since-goes c i (carried_by k), ap (λ (z : Said Carried (Passed Shown)). (state_of z).since) y)
 
       by_said : (i : Item) (q : ℕ) → record_on c w s k.at ≡ found i q → (x : Said Carried (Passed Shown)) → showing c (carried_by k) i ≡ x → Leads k (said_as q x)
       by_said i q b (tells x t) y =
-          λ m from. rw (next-given (showing c) (record_on c w s) (end_on w s) (record_moves c w s) (place_at k) i q x t b y) (shown-told m from q t x.passed x.it)
+          λ from. rw (next-given (showing c) (record_on c w s) (end_on w s) (record_moves c w s) (place_at k) i q x t b y) (shown-told from q t x.passed x.it)
       by_said i q b (passes t) y =
           let m = record_moves c w s k.at i q b in
           (next-passed (showing c) (record_on c w s) (end_on w s) (record_moves c w s) (place_at k) i q t b y, m.0, m.1, passes_on i q t b y)
 
       go : (t : Told Item) → record_on c w s k.at ≡ t → Leads k (looked_as c k t)
       go (found i q) x = by_said i q x (showing c (carried_by k) i) refl
-      go (nothing q) x = λ m from. rw (next_rests (showing c) (record_on c w s) (end_on w s) (record_moves c w s) (place_at k) q x)
+      go (nothing q) x = λ from. rw (next_rests (showing c) (record_on c w s) (end_on w s) (record_moves c w s) (place_at k) q x)
       go (refused n q) x = absurd (record_never c w s k.at n q x)
 
-  pub leads_by : (k : Place) (l : Looked) → l ≡ looked_as c k (record_on c w s k.at) → Leads k l
+  pub leads_by : (k : Place) (l : ControlFlow FrameStep Place) → l ≡ looked_as c k (record_on c w s k.at) → Leads k l
   leads_by k l x = rw x (leads k)

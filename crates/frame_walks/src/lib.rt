@@ -4,18 +4,17 @@
 #![tactic(auto)]
 
 ghost use Rattle.std.specs.Prelude.{◌≡◌, ◌+◌, ◌-◌, ◌≤◌, false};
-ghost use Rattle.walk.specs.Told.{refusal};
 ghost use Rattle.klv.specs.Item.{item};
 ghost use Rattle.frame_walks.specs.Kinds.{sony_kind, arri_kind, canon_kind, kind_of, longest_of, goes_on_at};
 ghost use Rattle.frame_walks.specs.Frames.{showing, record_on, beyond, frame_step, sony_step, sony_arrive, arri_step, arri_arrive, canon_step};
 ghost use Rattle.frame_walks.specs.Told.{carried_by, place_at, told, said_as, looked_as};
 
 use klv::Klv;
-use parts::lesser;
-use walk::{Cursor, Step, Way};
+use std::ops::ControlFlow;
+use walk::{Cursor, Step, WalkError, Way};
 
 // What a record is to a frame walk.
-#[derive(Clone, Copy)]
+#[derive(Clone, Copy, Debug, PartialEq, Eq)]
 pub enum Kind {
     // A frame's element.
     Frame,
@@ -25,7 +24,7 @@ pub enum Kind {
 }
 
 // Whose walk it is.
-#[derive(Clone, Copy)]
+#[derive(Clone, Copy, Debug, PartialEq, Eq)]
 pub enum Camera {
     Sony,
     Arri,
@@ -165,34 +164,30 @@ pub enum FrameStep {
     Given(Klv, usize, Place),
     // Neither: the finished walk is over; the arriving walk waits, and its step is to be made again from this place.
     Rests(Place),
-    // The end is larger than the buffer, or there are more bytes than the limit.
-    Refused,
-}
-
-// What a camera's walk makes of one record.
-#[derive(Clone, Copy)]
-pub enum Looked {
-    // It is passed, and walking goes on here.
-    Pass(Place),
-    Found(FrameStep),
 }
 
 // What a camera's walk makes, from a place on, of the next record, before which so many bytes were passed, and whose value ends
-// at `end`.
-fn met(s: &[u8], camera: Camera, from: Place, k: Klv, passed: usize, end: usize) -> Looked
+// at `end`: the step ends with what is found, or the record is passed and walking goes on at a place.
+fn met(
+    s: &[u8],
+    camera: Camera,
+    from: Place,
+    k: Klv,
+    passed: usize,
+    end: usize,
+) -> ControlFlow<FrameStep, Place>
     requires end_value { end ≡ k.value + k.len }
     requires passed_value { passed ≡ k.at - from.since }
     ensures { result ≡ said_as (goes_on_at camera (item 16 s.now k)) (showing camera (carried_by from) (item 16 s.now k)) }
 {
     let number = from.number;
-    let kind = kind_of(camera, k.label(s), k.len);
-    match kind {
+    match kind_of(camera, k.label(s), k.len) {
         Kind::Frame => {
             let after = std::num::wrapping_add_u64(number, 1);
             let longest = longest_of(camera);
             let overlong = longest < k.len;
             let next = if overlong { k.value } else { end };
-            Looked::Found(FrameStep::Frame(
+            ControlFlow::Break(FrameStep::Frame(
                 FrameElement {
                     number,
                     element: k,
@@ -212,9 +207,9 @@ fn met(s: &[u8], camera: Camera, from: Place, k: Klv, passed: usize, end: usize)
                 since: end,
                 number,
             };
-            Looked::Found(FrameStep::Given(k, passed, past))
+            ControlFlow::Break(FrameStep::Given(k, passed, past))
         }
-        Kind::Other => Looked::Pass(Place {
+        Kind::Other => ControlFlow::Continue(Place {
             at: end,
             since: end,
             number,
@@ -223,70 +218,53 @@ fn met(s: &[u8], camera: Camera, from: Place, k: Klv, passed: usize, end: usize)
 }
 
 // What a camera's walk makes of the next record from a place on.
-fn look(s: &[u8], way: Way, camera: Camera, from: Place) -> Looked
+fn look(s: &[u8], way: Way, camera: Camera, from: Place) -> ControlFlow<FrameStep, Place>
     requires s_value { beyond way s.now ≡ false }
     requires since_le_at { from.since ≤ from.at }
     ensures { result ≡ looked_as camera from (record_on camera way s.now from.at) }
 {
-    let t = Cursor {
+    let cursor = Cursor {
         at: from.at,
         since: from.since,
-    }
-    .on(s, way);
-    match t {
+    };
+    match cursor.on(s, way).unwrap() {
         Step::Record(k, passed, c) => met(s, camera, from, k, passed, c.at),
-        Step::Rests(c) => Looked::Found(FrameStep::Rests(Place {
+        Step::Rests(c) => ControlFlow::Break(FrameStep::Rests(Place {
             at: c.at,
             since: c.since,
             number: from.number,
         })),
-        // Never: the end lies within the buffer, or the bytes within the limit.
-        Step::Refused => Looked::Found(FrameStep::Refused),
-    }
-}
-
-// Whether the end is larger than the buffer, or there are more bytes than the limit.
-fn refuses(s: &[u8], way: Way) -> bool
-    ensures { result ≡ beyond way s.now }
-{
-    match way {
-        Way::Finished(end) => s.len() < end,
-        Way::Arriving(limit) => limit < s.len(),
     }
 }
 
 // The step of every frame walk: the next frame, or given value, from a place on.
-fn seek(s: &[u8], way: Way, camera: Camera, from: Place) -> FrameStep
-    ensures { told (refusal way) (place_at from) result ≡ frame_step camera way s.now (place_at from) }
+fn seek(s: &[u8], way: Way, camera: Camera, from: Place) -> Result<FrameStep, WalkError>
+    ensures { told (place_at from) result ≡ frame_step camera way s.now (place_at from) }
 {
-    if refuses(s, way) {
-        return FrameStep::Refused;
-    }
+    way.bounds(s)?;
     let mut p = Place {
-        at: from.at,
-        since: lesser(from.since, from.at),
-        number: from.number,
+        since: from.since.min(from.at),
+        ..from
     };
     loop {
-        let l = look(s, way, camera, p);
-        match l {
-            Looked::Found(f) => return f,
-            Looked::Pass(q) => p = q,
+        match look(s, way, camera, p) {
+            ControlFlow::Break(found) => return Ok(found),
+            ControlFlow::Continue(next) => p = next,
         }
     }
 }
 
 impl Sony {
     // The next frame before the end, with the place to go on from.
-    pub fn step(self, s: &[u8], end: usize) -> FrameStep
-        ensures { told 1 (place_at self.place) result ≡ sony_step s.now end (place_at self.place) }
+    pub fn step(self, s: &[u8], end: usize) -> Result<FrameStep, WalkError>
+        ensures { told (place_at self.place) result ≡ sony_step s.now end (place_at self.place) }
     {
         seek(s, Way::Finished(end), Camera::Sony, self.place)
     }
 
     // The next frame that no later byte, within the limit, can unsay.
-    pub fn arrive(self, a: &[u8], limit: usize) -> FrameStep
-        ensures { told 2 (place_at self.place) result ≡ sony_arrive limit a.now (place_at self.place) }
+    pub fn arrive(self, a: &[u8], limit: usize) -> Result<FrameStep, WalkError>
+        ensures { told (place_at self.place) result ≡ sony_arrive limit a.now (place_at self.place) }
     {
         seek(a, Way::Arriving(limit), Camera::Sony, self.place)
     }
@@ -294,15 +272,15 @@ impl Sony {
 
 impl Arri {
     // The next frame before the end, with the place to go on from.
-    pub fn step(self, s: &[u8], end: usize) -> FrameStep
-        ensures { told 1 (place_at self.place) result ≡ arri_step s.now end (place_at self.place) }
+    pub fn step(self, s: &[u8], end: usize) -> Result<FrameStep, WalkError>
+        ensures { told (place_at self.place) result ≡ arri_step s.now end (place_at self.place) }
     {
         seek(s, Way::Finished(end), Camera::Arri, self.place)
     }
 
     // The next frame that no later byte, within the limit, can unsay.
-    pub fn arrive(self, a: &[u8], limit: usize) -> FrameStep
-        ensures { told 2 (place_at self.place) result ≡ arri_arrive limit a.now (place_at self.place) }
+    pub fn arrive(self, a: &[u8], limit: usize) -> Result<FrameStep, WalkError>
+        ensures { told (place_at self.place) result ≡ arri_arrive limit a.now (place_at self.place) }
     {
         seek(a, Way::Arriving(limit), Camera::Arri, self.place)
     }
@@ -310,8 +288,8 @@ impl Arri {
 
 impl Canon {
     // The next frame or given value before the end, in file order, with the place to go on from.
-    pub fn step(self, s: &[u8], end: usize) -> FrameStep
-        ensures { told 1 (place_at self.place) result ≡ canon_step s.now end (place_at self.place) }
+    pub fn step(self, s: &[u8], end: usize) -> Result<FrameStep, WalkError>
+        ensures { told (place_at self.place) result ≡ canon_step s.now end (place_at self.place) }
     {
         seek(s, Way::Finished(end), Camera::Canon, self.place)
     }

@@ -1,5 +1,5 @@
 -- The header part: docs/RULES.md, "Tables inside values".
-use Rattle.std.specs.Prelude.{ℕ, ◌+◌, ◌-◌, min, List, [], Bool, cond, length, take, drop, leb, eqb}
+use Rattle.std.specs.Prelude.{ℕ, ◌+◌, ◌-◌, min, List, [], Bool, cond, length, take, drop, leb, eqb, Option, Some, None}
 use Rattle.steps.specs.Told.{Told, found, nothing, refused}
 use Rattle.parts.specs.Number.{number_at}
 use Rattle.parts.specs.Answer.{Answer, is, none}
@@ -7,13 +7,11 @@ use Rattle.labels.specs.Label.{partition_kind}
 use Rattle.klv.specs.Item.{Item}
 use Rattle.items.specs.Items.{run_step}
 use Rattle.header.specs.declared.Place.{Place}
-use Rattle.header.specs.declared.Header.{Header}
-use Rattle.header.specs.declared.Header.TheVariants.{Part, Nothing}
 
 -- an answer says where the part is and how long, or that there is none
-abbrev pub told : Header → Answer Place
-told (Part p) = is p
-told Nothing = none
+abbrev pub told : Option Place → Answer Place
+told (Some p) = is p
+told None = none
 
 -- the label begins with the 13 bytes of PARTITION_PREFIX, byte 13 is 2
 abbrev pub is_header : List ℕ → Bool

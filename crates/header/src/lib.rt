@@ -10,24 +10,10 @@ use items::{Run, RunNext};
 use parts::number;
 
 // A part of the buffer: where it starts and how long it is.
-#[derive(Clone, Copy)]
+#[derive(Clone, Copy, Debug, PartialEq, Eq)]
 pub struct Place {
     pub at: usize,
     pub len: usize,
-}
-
-// Where the header part is, if there is one.
-#[derive(Clone, Copy)]
-pub enum Header {
-    Part(Place),
-    Nothing,
-}
-
-// The smaller of two.
-fn lesser(a: u64, b: usize) -> usize
-    ensures { result ≡ min a b }
-{
-    if a <= b as u64 { a as usize } else { b }
 }
 
 // Whether a buffer begins with a header partition pack's label.
@@ -44,39 +30,38 @@ fn size_of(s: &[u8], v: usize, rest: usize) -> usize
 {
     let bytes_at = v + 32;
     let bytes_end = bytes_at + 8;
-    let first = lesser(number(&s[bytes_at..bytes_end]), rest);
+    let first = number(&s[bytes_at..bytes_end]).min(rest as u64) as usize;
     let grid_at = v + 4;
     let grid_end = grid_at + 4;
-    let second = lesser(number(&s[grid_at..grid_end]), rest - first);
-    first + second
+    let left = rest - first;
+    first + number(&s[grid_at..grid_end]).min(left as u64) as usize
 }
 
-// The place of the header part, after the header partition pack that the buffer begins with.
-pub fn find(s: &[u8]) -> Header
+// The place of the header part, after the header partition pack that the buffer begins with, if there is one.
+pub fn find(s: &[u8]) -> Option<Place>
     ensures { told result ≡ header_of s.now }
 {
     if !is_header(s) {
-        return Header::Nothing;
+        return None;
     }
     let step = Run { at: 0 }.step(s);
     let RunNext::Item(k, next) = step else {
-        return Header::Nothing;
+        return None;
     };
     if k.len < 40 {
-        return Header::Nothing;
+        return None;
     }
     let at = next.at;
     let len = size_of(s, k.value, s.len() - at);
-    Header::Part(Place { at, len })
+    Some(Place { at, len })
 }
 
 // The bytes of the header part: none where there is none.
 pub fn bytes(s: &[u8]) -> &[u8]
     ensures { result.now ≡ header_bytes s.now }
 {
-    let h = find(s);
-    let Header::Part(p) = h else {
-        return parts::part(s, 0, 0);
-    };
-    parts::part(s, p.at, p.len)
+    match find(s) {
+        Some(p) => parts::part(s, p.at, p.len),
+        None => &[],
+    }
 }

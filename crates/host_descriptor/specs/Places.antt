@@ -1,22 +1,18 @@
 -- The items of a picture descriptor, at the places that a host's arrays have for them: include/brinethimble.h,
 -- BRINE_DESCRIPTOR_*.
-use Rattle.std.specs.Prelude.{ℕ, List, [], ◌∷◌}
-use Rattle.descriptor.specs.declared.Whole.{Whole}
-use Rattle.descriptor.specs.declared.Whole.TheVariants as whole
-use Rattle.descriptor.specs.declared.Rate.{Rate}
-use Rattle.descriptor.specs.declared.Rate.TheVariants as rate
+use Rattle.std.specs.Prelude.{ℕ, List, [], ◌∷◌, Float, Option, Some, None}
 use Rattle.descriptor.specs.declared.Descriptor.{Descriptor}
 use Rattle.descriptor.specs.Descriptor.{Said, done, refused}
 use Rattle.host_slots.specs.declared.Slot.{Slot}
 use Rattle.host_slots.specs.Slots as slots
 
-unfoldable pub whole_slot : Whole → Slot
-whole_slot (whole.Is n) = slots.whole n
-whole_slot whole.Nothing = slots.nothing
+unfoldable pub whole_slot : Option ℕ → Slot
+whole_slot (Some n) = slots.whole n
+whole_slot None = slots.nothing
 
-unfoldable pub rate_slot : Rate → Slot
-rate_slot (rate.Is x) = slots.double x
-rate_slot rate.Nothing = slots.nothing
+unfoldable pub rate_slot : Option Float → Slot
+rate_slot (Some x) = slots.double x
+rate_slot None = slots.nothing
 
 -- all of a descriptor
 unfoldable pub descriptor_slots : Descriptor → List Slot

@@ -7,26 +7,26 @@ ghost use Rattle.host_slots.specs.Slots.{kinds, patterns};
 ghost use Rattle.descriptor.specs.Descriptor.{descriptor_told};
 ghost use Rattle.host_descriptor.specs.Places.{whole_slot, rate_slot, descriptor_slots, status_of, after};
 
-use descriptor::{Answer, Descriptor, Rate, Whole};
+use descriptor::Descriptor;
 use host_slots::{Slot, WHOLE, double, nothing, of_kind, put};
 
 // A whole number, where there is one.
-fn whole_slot(v: Whole) -> Slot
+fn whole_slot(v: Option<u64>) -> Slot
     ensures { result ≡ whole_slot v }
 {
     match v {
-        Whole::Is(n) => of_kind(WHOLE, n),
-        Whole::Nothing => nothing(),
+        Some(n) => of_kind(WHOLE, n),
+        None => nothing(),
     }
 }
 
 // A quotient, where there is one.
-fn rate_slot(v: Rate) -> Slot
+fn rate_slot(v: Option<f64>) -> Slot
     ensures { result ≡ rate_slot v }
 {
     match v {
-        Rate::Is(x) => double(x),
-        Rate::Nothing => nothing(),
+        Some(x) => double(x),
+        None => nothing(),
     }
 }
 
@@ -34,23 +34,15 @@ fn rate_slot(v: Rate) -> Slot
 fn first_eight(d: Descriptor) -> [Slot; 8]
     ensures { result ≡ take 8 (descriptor_slots d) }
 {
-    let duration = d.duration;
-    let timecode_base = d.timecode_base;
-    let start_timecode = d.start_timecode;
-    let drop_frame = d.drop_frame;
-    let sample_rate = d.sample_rate;
-    let container_duration = d.container_duration;
-    let stored_height = d.stored_height;
-    let stored_width = d.stored_width;
     [
-        whole_slot(duration),
-        whole_slot(timecode_base),
-        whole_slot(start_timecode),
-        whole_slot(drop_frame),
-        rate_slot(sample_rate),
-        whole_slot(container_duration),
-        whole_slot(stored_height),
-        whole_slot(stored_width),
+        whole_slot(d.duration),
+        whole_slot(d.timecode_base),
+        whole_slot(d.start_timecode),
+        whole_slot(d.drop_frame),
+        rate_slot(d.sample_rate),
+        whole_slot(d.container_duration),
+        whole_slot(d.stored_height),
+        whole_slot(d.stored_width),
     ]
 }
 
@@ -58,25 +50,15 @@ fn first_eight(d: Descriptor) -> [Slot; 8]
 fn second_eight(d: Descriptor) -> [Slot; 8]
     ensures { result ≡ take 8 (drop 8 (descriptor_slots d)) }
 {
-    let sampled = d.sampled;
-    let display = d.display;
-    let sampled_height = sampled.height;
-    let sampled_width = sampled.width;
-    let sampled_x_offset = sampled.x_offset;
-    let sampled_y_offset = sampled.y_offset;
-    let display_height = display.height;
-    let display_width = display.width;
-    let display_x_offset = display.x_offset;
-    let display_y_offset = display.y_offset;
     [
-        whole_slot(sampled_height),
-        whole_slot(sampled_width),
-        whole_slot(sampled_x_offset),
-        whole_slot(sampled_y_offset),
-        whole_slot(display_height),
-        whole_slot(display_width),
-        whole_slot(display_x_offset),
-        whole_slot(display_y_offset),
+        whole_slot(d.sampled.height),
+        whole_slot(d.sampled.width),
+        whole_slot(d.sampled.x_offset),
+        whole_slot(d.sampled.y_offset),
+        whole_slot(d.display.height),
+        whole_slot(d.display.width),
+        whole_slot(d.display.x_offset),
+        whole_slot(d.display.y_offset),
     ]
 }
 
@@ -84,12 +66,10 @@ fn second_eight(d: Descriptor) -> [Slot; 8]
 fn third_eight(d: Descriptor) -> [Slot; 8]
     ensures { result ≡ take 8 (drop 16 (descriptor_slots d)) }
 {
-    let aspect_ratio = d.aspect_ratio;
-    let color_range = d.color_range;
     let none = nothing();
     [
-        rate_slot(aspect_ratio),
-        whole_slot(color_range),
+        rate_slot(d.aspect_ratio),
+        whole_slot(d.color_range),
         none,
         none,
         none,
@@ -106,9 +86,8 @@ pub extern "C" fn brine_descriptor(s: &[u8], kind: &mut [u64; 32], bits: &mut [u
     ensures kind_after { kind.new ≡ after kinds (descriptor_told s.now) kind.old }
     ensures bits_after { bits.new ≡ after patterns (descriptor_told s.now) bits.old }
 {
-    let a = descriptor::read(s);
-    match a {
-        Answer::Is(d) => {
+    match descriptor::read(s) {
+        Ok(d) => {
             let none = nothing();
             let rest = [none; 8];
             put(
@@ -121,6 +100,6 @@ pub extern "C" fn brine_descriptor(s: &[u8], kind: &mut [u64; 32], bits: &mut [u
             );
             0
         }
-        Answer::Refused => 4,
+        Err(_) => 4,
     }
 }

@@ -5,7 +5,7 @@ use Rattle.steps.specs.Passed.{Passed}
 use Rattle.klv.specs.declared.Klv.{Klv}
 use Rattle.klv.specs.Item.{Item}
 use Rattle.fed_states.specs.declared.State.{State}
-use Rattle.fed_states.specs.Close.{Rest}
+use Rattle.fed_states.specs.declared.Rest.{Rest}
 use Rattle.fed_bytes.specs.Feed.{Taken}
 use Rattle.host_numbers.specs.Numbers.{mark}
 use Rattle.host_fed_states.specs.Places.{state_places}

@@ -5,7 +5,7 @@ use mathlib.Core.List.{List, [], ◌∷◌}
 use Rattle.steps.specs.Told.{ToldAt, found, nothing, refused, number}
 use Rattle.steps.specs.Passed.{Passed}
 use Rattle.frame_walks.specs.Frames.{Shown}
-use Rattle.fed_states.specs.Close.{Rest}
+use Rattle.fed_states.specs.declared.Rest.{Rest}
 use Rattle.fed_frames.specs.declared.FrameState.{FrameState}
 use Rattle.fed_frames.specs.Frames.{FrameTaken, FramesTold}
 use Rattle.host_fed_frames.specs.Places.{walk_places, walk_after, label_after, shown_places, feed_places, closed, close_places}

@@ -4,7 +4,7 @@ use Rattle.steps.specs.Told.{ToldAt, found, nothing, refused}
 use Rattle.frame_walks.specs.declared.Camera.{Camera}
 use Rattle.frame_walks.specs.declared.Camera.TheVariants.{Sony, Arri, Canon}
 use Rattle.frame_walks.specs.Frames.{Shown, framed, given}
-use Rattle.fed_states.specs.Close.{Rest}
+use Rattle.fed_states.specs.declared.Rest.{Rest}
 use Rattle.fed_frames.specs.declared.FrameState.{FrameState}
 use Rattle.fed_frames.specs.Frames.{FramesTold}
 use Rattle.host_numbers.specs.Numbers.{mark}

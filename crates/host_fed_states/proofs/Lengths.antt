@@ -1,4 +1,5 @@
 -- The length that nine bytes begin with, by the two numbers that hold them. Assumes nothing.
+use Rattle.std.specs.Prelude.{Err, Ok}
 use Prim.Native.Nat.{ℕ, zero, suc, ◌+◌, ◌-◌, ◌*◌, ◌^◌, ◌/◌, ◌%◌, ◌≤◌, ◌<◌}
 use mathlib.Core.Path.{◌≡◌, refl, sym, ap, ◌∙◌}
 use mathlib.Core.Bool.{Bool, true}
@@ -12,7 +13,7 @@ use lib.Dec.{leb}
 use lib.ListN.{length, get_or}
 use lib.Pow.{pow-add}
 use Rattle.parts.specs.Number.{number_at}
-use Rattle.lengths.specs.declared.Length.TheVariants.{Is, None}
+use Rattle.lengths.specs.declared.NoLength.TheVariants.{Invalid}
 use Rattle.lengths.specs.Length.{bound_of, shortest_of, field, length_at}
 use Rattle.lengths.proofs.Laws.{shortest_eighty, shortest_else, shortest-two, held, short_read, no_length, more}
 use Rattle.host_fed_states.specs.Places.{bytes_of}
@@ -61,10 +62,10 @@ module _ (lead eight : ℕ) where
   there : 0 < length nine
   there = omega (arith, ber-length lead eight)
 
-  pub length-short : first < 0x80 → Is (record { value = first; size = 1; shortest = true }) ≡ length_at nine 0
+  pub length-short : first < 0x80 → Ok (record { value = first; size = 1; shortest = true }) ≡ length_at nine 0
   length-short b = sym (rw first_byte at (short_read nine 0 there (rw first_byte b)))
 
-  pub length_none : 0x88 < first → None ≡ length_at nine 0
+  pub length_none : 0x88 < first → (Err Invalid) ≡ length_at nine 0
   length_none b = sym (no_length nine 0 there (rw first_byte b))
 
   module _ (h : eight < 2 ^ 64) (low : 0x80 ≤ first) (high : first ≤ 0x88) where
@@ -91,14 +92,14 @@ module _ (lead eight : ℕ) where
         value-is
         ∙ sym (ap (λ (l : List ℕ). number_at (bytes_of 1 lead ++ l) 1 n) b ∙ (rw (bytes-length 1 lead) at (number-bytes n (eight / 256 ^ k) (bytes_of 1 lead) (bytes_of k eight))) ∙ mod-eq_of_lt m)
 
-    length-long : (b : Bool) → b ≡ shortest_of first (1 + n) value → Is (record { value = value; size = 1 + n; shortest = b }) ≡ length_at nine 0
+    length-long : (b : Bool) → b ≡ shortest_of first (1 + n) value → Ok (record { value = value; size = 1 + n; shortest = b }) ≡ length_at nine 0
     length-long b s =
         rw s
-        (ap (λ (x : ℕ). Is (field first (1 + n) x)) value-number ∙ sym (held (field first (1 + n)) nine 1 n (omega (arith, ber-length lead eight)))
+        (ap (λ (x : ℕ). Ok (field first (1 + n) x)) value-number ∙ sym (held (field first (1 + n)) nine 1 n (omega (arith, ber-length lead eight)))
         ∙ sym (rw first_byte at (more nine 0 there (rw first_byte low) (rw first_byte high))))
 
     -- where one byte more, or none, holds it
-    pub length-few : n < 2 → Is (record { value = value; size = 1 + n; shortest = leb 0x80 value }) ≡ length_at nine 0
+    pub length-few : n < 2 → Ok (record { value = value; size = 1 + n; shortest = leb 0x80 value }) ≡ length_at nine 0
     length-few m =
         by_cases (dec_lt 0x80 first)
         (λ o. length-long (leb 0x80 value) (sym (shortest-two first n value (λ z. omega arith) (omega arith))))
@@ -111,7 +112,7 @@ module _ (lead eight : ℕ) where
     abbrev left : ℕ
     left = value / 2 ^ (4 * n - 4) / 2 ^ (4 * n - 4)
 
-    pub length_more : 2 ≤ n → Is (record { value = value; size = 1 + n; shortest = leb 1 left }) ≡ length_at nine 0
+    pub length_more : 2 ≤ n → Ok (record { value = value; size = 1 + n; shortest = leb 1 left }) ≡ length_at nine 0
     unfolding bound_of
     length_more m =
         let j = n - 2 in

@@ -1,4 +1,5 @@
 -- A piece that starts with a key: its length, and what comes of it. Assumes nothing.
+use Rattle.std.specs.Prelude.{Err, Ok, Result}
 use Prim.Native.Nat.{ℕ, ◌+◌, ◌-◌, ◌≤◌, ◌<◌}
 use mathlib.Core.Path.{◌≡◌, refl, sym, ap, ◌∙◌}
 use mathlib.Core.Bool.{true}
@@ -9,8 +10,9 @@ use lib.Seq.{take-add, take-length, drop-drop}
 use Rattle.parts.specs.Bytes.{Bytes}
 use Rattle.parts.specs.Number.{number_at}
 use Rattle.labels.specs.Label.{key_at, label_at}
-use Rattle.lengths.specs.declared.Length.{Length}
-use Rattle.lengths.specs.declared.Length.TheVariants.{Is, Cut, None}
+use Rattle.lengths.specs.declared.Field.{Field}
+use Rattle.lengths.specs.declared.NoLength.{NoLength}
+use Rattle.lengths.specs.declared.NoLength.TheVariants.{Cut, Invalid}
 use Rattle.lengths.specs.Length.{length_at}
 use Rattle.lengths.proofs.Laws.{taken}
 use Rattle.steps.specs.Told.{found, nothing}
@@ -47,10 +49,10 @@ length-nine l p b h =
     z : p + 0 ≡ p
     z = omega arith
 
-    front : (x : Length) → length_at (take (length (drop p l)) (drop p l)) 0 ≡ x → length_at (take 9 (drop p l)) 0 ≡ length_at (take (length (drop p l)) (drop p l)) 0
-    front (Is f) e = let k = length-drop p l in length_back (drop p l) 9 (length (drop p l)) (omega arith) f e (taken _ _ f e).most ∙ sym e
-    front Cut e = let k = length-drop p l in cut_back (drop p l) 9 (length (drop p l)) (omega arith) e ∙ sym e
-    front None e = let k = length-drop p l in none_back (drop p l) 9 (length (drop p l)) (omega arith) e (omega arith) ∙ sym e
+    front : (x : Result Field NoLength) → length_at (take (length (drop p l)) (drop p l)) 0 ≡ x → length_at (take 9 (drop p l)) 0 ≡ length_at (take (length (drop p l)) (drop p l)) 0
+    front (Ok f) e = let k = length-drop p l in length_back (drop p l) 9 (length (drop p l)) (omega arith) f e (taken _ _ f e).most ∙ sym e
+    front (Err Cut) e = let k = length-drop p l in cut_back (drop p l) 9 (length (drop p l)) (omega arith) e ∙ sym e
+    front (Err Invalid) e = let k = length-drop p l in none_back (drop p l) 9 (length (drop p l)) (omega arith) e (omega arith) ∙ sym e
 
 -- What comes of it
 module _ (st : State) (piece : List ℕ) (v : Value) (t : Begins st piece v) where

@@ -1,4 +1,5 @@
 -- What is said of a value that is waited for, or whose key a piece starts with. Assumes nothing.
+use Rattle.std.specs.Prelude.{Err, Ok, Result}
 use Prim.Native.Nat.{ℕ, ◌+◌, ◌-◌, ◌≤◌, ◌<◌}
 use mathlib.Core.Path.{◌≡◌, refl, sym, ap, ◌∙◌}
 use mathlib.Core.Bool.{Bool, true, false, ◌&&◌, and-false}
@@ -12,8 +13,8 @@ use lib.ListN.{length, drop}
 use lib.Seq.{take_all}
 use Rattle.steps.specs.Told.{found, nothing}
 use Rattle.lengths.specs.declared.Field.{Field}
-use Rattle.lengths.specs.declared.Length.{Length}
-use Rattle.lengths.specs.declared.Length.TheVariants.{Is, Cut, None}
+use Rattle.lengths.specs.declared.NoLength.{NoLength}
+use Rattle.lengths.specs.declared.NoLength.TheVariants.{Cut, Invalid}
 use Rattle.lengths.specs.Length.{length_at}
 use Rattle.labels.specs.Label.{key_at}
 use Rattle.klv.specs.Item.{klv}
@@ -49,44 +50,44 @@ whole_length st h e = ap (λ (x : List ℕ). length_at x 0) (take_all (st.have -
 
 -- A value, by the length in front of it
 module _ (limit at have : ℕ) where
-  pub value_none : (l : Length) → (l ≡ Cut) ⊎ (l ≡ None) → nowhere ≡ value_of limit at have l
+  pub value_none : (l : Result Field NoLength) → (l ≡ Err Cut) ⊎ (l ≡ Err Invalid) → nowhere ≡ value_of limit at have l
   unfolding value_of
   value_none l o = ⊎_elim (λ x. rw x) (λ x. rw x) o
 
   module _ (f : Field) where
-    pub value_late : limit < at + 16 + f.size + f.value → nowhere ≡ value_of limit at have (Is f)
+    pub value_late : limit < at + 16 + f.size + f.value → nowhere ≡ value_of limit at have (Ok f)
     unfolding value_of
     value_late h = rw (lt-leb _ _ h)
 
-    pub value-past : 16 + f.size + f.value ≤ have → nowhere ≡ value_of limit at have (Is f)
+    pub value-past : 16 + f.size + f.value ≤ have → nowhere ≡ value_of limit at have (Ok f)
     unfolding value_of
     value-past h = rw (le-ltb _ _ h, and-false)
 
     pub value-is : at + 16 + f.size + f.value ≤ limit → have < 16 + f.size + f.value
-        → record { due = 16 + f.size + f.value; next = at + (16 + f.size + f.value); klv = klv 16 at f } ≡ value_of limit at have (Is f)
+        → record { due = 16 + f.size + f.value; next = at + (16 + f.size + f.value); klv = klv 16 at f } ≡ value_of limit at have (Ok f)
     unfolding value_of
     value-is h o = rw (le-leb _ _ h, lt-ltb _ _ o)
 
 -- what is known of one
-pub record Due (limit at have : ℕ) (l : Length) (v : Value) : Type 0 where
+pub record Due (limit at have : ℕ) (l : Result Field NoLength) (v : Value) : Type 0 where
   pub f : Field
-  pub is : l ≡ Is f
+  pub is : l ≡ Ok f
   pub fits : at + 16 + f.size + f.value ≤ limit
   pub less : have < 16 + f.size + f.value
   pub due : v.due ≡ 16 + f.size + f.value
   pub next : v.next ≡ at + (16 + f.size + f.value)
   pub klv : v.klv ≡ klv 16 at f
 
-value_due : (limit at have : ℕ) (l : Length) (v : Value) → v ≡ value_of limit at have l → (v.due ≡ 0 → ⊥) → Due limit at have l v
+value_due : (limit at have : ℕ) (l : Result Field NoLength) (v : Value) → v ≡ value_of limit at have l → (v.due ≡ 0 → ⊥) → Due limit at have l v
 value_due limit at have l v e o = go l refl
   where
     none : nowhere ≡ value_of limit at have l → Due limit at have l v
     none x = absurd (o (ap (λ (y : Value). y.due) (e ∙ sym x)))
 
-    go : (m : Length) → l ≡ m → Due limit at have l v
-    go Cut x = none (value_none limit at have l (inl x))
-    go None x = none (value_none limit at have l (inr x))
-    go (Is f) x =
+    go : (m : Result Field NoLength) → l ≡ m → Due limit at have l v
+    go (Err Cut) x = none (value_none limit at have l (inl x))
+    go (Err Invalid) x = none (value_none limit at have l (inr x))
+    go (Ok f) x =
         by_cases (dec_lt limit (at + 16 + f.size + f.value)) (λ h. none (rw x (value_late limit at have f h)))
         (λ h. by_cases (dec_lt have (16 + f.size + f.value))
         (λ a. let y = e ∙ ap (value_of limit at have) x ∙ sym (value-is limit at have f (omega arith) a) in
@@ -136,7 +137,7 @@ pub record Tells (st : State) (n : ℕ) (v : Value) : Type 0 where
   pub alive : st.live ≡ true
   pub may : st.at + st.have + n ≤ st.limit
   pub kept : 25 ≤ st.have
-  pub length : length_of st ≡ Is f
+  pub length : length_of st ≡ Ok f
   pub fits : st.at + 16 + f.size + f.value ≤ st.limit
   pub due : v.due ≡ 16 + f.size + f.value
   pub next : v.next ≡ st.at + (16 + f.size + f.value)
@@ -177,7 +178,7 @@ pub record Begins (st : State) (piece : List ℕ) (v : Value) : Type 0 where
   pub none : st.have ≡ 0
   pub many : 25 ≤ length piece
   pub key : key_at piece 0 ≡ true
-  pub length : length_at piece 16 ≡ Is f
+  pub length : length_at piece 16 ≡ Ok f
   pub fits : st.at + 16 + f.size + f.value ≤ st.limit
   pub due : v.due ≡ 16 + f.size + f.value
   pub next : v.next ≡ st.at + (16 + f.size + f.value)
@@ -220,7 +221,7 @@ module _ (st : State) (piece : List ℕ) (v : Value) (t : Tells st (length piece
   feeds : feed_of st piece ≡ eats st piece 0
   feeds = feed_eats st piece (sound_within st t.alive (omega (arith, t.may))) (omega (arith, t.may))
 
-  same_length : length_of (filled st piece 0 0) ≡ Is t.f
+  same_length : length_of (filled st piece 0 0) ≡ Ok t.f
   same_length = ap (λ (s : State). length_of s) (filled_none st piece 0) ∙ t.length
 
   four : 4 ≤ st.have
@@ -245,7 +246,7 @@ module _ (st : State) (piece : List ℕ) (v : Value) (t : Tells st (length piece
       let d = t.due in
       let e = v.due in
       let x = comes_record st piece 0 four 0 (length piece) (omega arith) enough (omega arith) t.may eats eats_bytewise 0 e (omega (arith, t.less)) h (omega (arith, t.less, t.kept)) t.f same_length t.fits (omega (arith, t.less)) in
-      let l : length_of (counting st piece 0 four 0 (length piece) (omega arith) enough (omega arith) t.may e) ≡ Is t.f
+      let l : length_of (counting st piece 0 four 0 (length piece) (omega arith) enough (omega arith) t.may e) ≡ Ok t.f
       = rw (sym (ber-none st piece 0)) (length-longer st.ber (st.have - 16) (e - 16) (omega (arith, t.less)) t.f t.length) in
       let r = turn_record (counting st piece 0 four 0 (length piece) (omega arith) enough (omega arith) t.may e) t.f l (omega (arith, t.less)) in
       let z : 0 + (e - st.have) ≡ e - st.have = omega arith in

@@ -1,7 +1,8 @@
 -- The value that a key waits for.
-use Rattle.std.specs.Prelude.{ℕ, ◌+◌, List, false, cond, ◌&&◌, length, eqb, ltb, leb}
-use Rattle.lengths.specs.declared.Length.{Length}
-use Rattle.lengths.specs.declared.Length.TheVariants.{Is, Cut, None}
+use Rattle.std.specs.Prelude.{ℕ, ◌+◌, List, false, cond, ◌&&◌, length, eqb, ltb, leb, Err, Ok, Result}
+use Rattle.lengths.specs.declared.Field.{Field}
+use Rattle.lengths.specs.declared.NoLength.{NoLength}
+use Rattle.lengths.specs.declared.NoLength.TheVariants.{Cut, Invalid}
 use Rattle.lengths.specs.Length.{length_at}
 use Rattle.labels.specs.Label.{key_at}
 use Rattle.klv.specs.Item.{klv}
@@ -15,13 +16,13 @@ nowhere = record { due = 0; next = 0; klv = record { at = 0; value = 0; len = 0;
 
 -- behind a key at a place, of which so many bytes have come: with how many bytes from there on it is whole, its end, and its record;
 -- where it ends within the limit, and lacks a byte
-unfoldable pub value_of : ℕ → ℕ → ℕ → Length → Value
-value_of limit at have (Is f) =
+unfoldable pub value_of : ℕ → ℕ → ℕ → Result Field NoLength → Value
+value_of limit at have (Ok f) =
     cond (leb (at + 16 + f.size + f.value) limit && ltb have (16 + f.size + f.value))
     (record { due = 16 + f.size + f.value; next = at + (16 + f.size + f.value); klv = klv 16 at f })
     nowhere
-value_of limit at have Cut = nowhere
-value_of limit at have None = nowhere
+value_of limit at have (Err Cut) = nowhere
+value_of limit at have (Err Invalid) = nowhere
 
 -- where n bytes may come, and all that is kept of a key has come
 unfoldable pub waited_of : State → ℕ → Value

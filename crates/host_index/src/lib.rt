@@ -9,8 +9,7 @@ ghost use Rattle.index_layouts.specs.Turning.{turn_of, after_turn};
 ghost use Rattle.host_entries.specs.Entries.{layout_of, entry_of};
 ghost use Rattle.host_index.specs.Places.{add_status, add_places, find_status, find_places, turn_status};
 
-use index::{Added, Looked};
-use index_layouts::Turned;
+use index_layouts::Longer;
 
 // The group of the record at a place, among the first groups of a tally.
 #[unsafe(no_mangle)]
@@ -35,17 +34,12 @@ pub extern "C" fn brine_index_add(
 {
     let l = host_entries::layout_of(columns);
     let e = host_entries::entry_of(entry);
-    let a = index::add(l, index, used, e);
-    match a {
-        Added::Done(n) => {
+    match index::add(l, index, used, e) {
+        Ok(n) => {
             *out = [n as u64];
             0
         }
-        Added::Short => 1,
-        Added::Field => 15,
-        Added::Start => 16,
-        Added::Order => 17,
-        Added::Full => 18,
+        Err(r) => host_entries::refusal_of(r),
     }
 }
 
@@ -62,28 +56,22 @@ pub extern "C" fn brine_index_find(
     ensures out_after { out.new ≡ find_places (find_of (layout_of columns) index.now used position) out.old }
 {
     let l = host_entries::layout_of(columns);
-    let a = index::find(l, index, used, position);
-    match a {
-        Looked::At(f) => {
-            let e = f.entry;
-            *out = [1, f.number as u64, e.start, e.size, e.group, e.len];
+    match index::find(l, index, used, position) {
+        Ok(found) => {
+            *out = host_entries::look_places(found);
             0
         }
-        Looked::Nothing => {
-            *out = [0; 6];
-            0
-        }
-        Looked::Short => 1,
+        Err(r) => host_entries::refusal_of(r),
     }
 }
 
 // The status of turning an index.
-fn turn_status(t: Turned) -> u32
+fn turn_status(t: Result<(), Longer>) -> u32
     ensures { result ≡ turn_status t }
 {
     match t {
-        Turned::Done => 0,
-        Turned::Longer(_) => 3,
+        Ok(()) => 0,
+        Err(_) => 3,
     }
 }
 
@@ -95,8 +83,7 @@ pub extern "C" fn brine_index_columns(rows: &[u8], room: &mut [u8], out: &mut [u
     ensures room_after { room.new ≡ after_turn Columns rows.now room.old }
 {
     *out = [rows.len() as u64];
-    let t = index_layouts::to_columns(rows, room);
-    turn_status(t)
+    turn_status(index_layouts::to_columns(rows, room))
 }
 
 // Columns turned into rows.
@@ -107,6 +94,5 @@ pub extern "C" fn brine_index_rows(columns: &[u8], room: &mut [u8], out: &mut [u
     ensures room_after { room.new ≡ after_turn Rows columns.now room.old }
 {
     *out = [columns.len() as u64];
-    let t = index_layouts::to_rows(columns, room);
-    turn_status(t)
+    turn_status(index_layouts::to_rows(columns, room))
 }

@@ -5,9 +5,10 @@ ghost use Rattle.std.specs.Prelude.{◌≡◌, length};
 ghost use Rattle.outline_text.specs.Said.{outline_said, outline_into};
 ghost use Rattle.host_outline.specs.Places.{outline_places};
 
-use outline_text::Outlined;
+use outline_text::OutlineError;
 
 // The outline of a file with an end, to a depth of 1 to 8, at the start of `text`.
+#[tactic(auto, unfolding(crate::specs::Places::or_as_it_was, crate::specs::Places::outline_places))]
 #[unsafe(no_mangle)]
 pub extern "C" fn brine_outline(
     s: &[u8],
@@ -20,15 +21,14 @@ pub extern "C" fn brine_outline(
     ensures out_after { out.new ≡ outline_places (outline_said s.now end depth (length text.old)) out.old }
     ensures text_after { text.new ≡ outline_into s.now end depth text.old }
 {
-    let a = outline_text::outline_into(s, end, depth, text);
-    match a {
-        Outlined::Is(n) => {
+    match outline_text::outline_into(s, end, depth, text) {
+        Ok(n) => {
             *out = [n as u64];
             0
         }
-        Outlined::Refused => 1,
-        Outlined::Depth => 6,
-        Outlined::Longer(n) => {
+        Err(OutlineError::End) => 1,
+        Err(OutlineError::Depth) => 6,
+        Err(OutlineError::Longer(n)) => {
             *out = [n as u64];
             3
         }

@@ -12,12 +12,12 @@ header_places (is p) = 1 ∷ p.at ∷ p.len ∷ []
 header_places none = 0 ∷ 0 ∷ 0 ∷ []
 
 -- found, the place of a primer's label
-unfoldable pub start_places : Answer ℕ → List ℕ
+abbrev pub start_places : Answer ℕ → List ℕ
 start_places (is at) = 1 ∷ at ∷ []
 start_places none = 0 ∷ 0 ∷ []
 
 -- found, the place of a block
-unfoldable pub block_places : Option ℕ → List ℕ
+abbrev pub block_places : Option ℕ → List ℕ
 block_places (Some at) = 1 ∷ at ∷ []
 block_places None = 0 ∷ 0 ∷ []
 

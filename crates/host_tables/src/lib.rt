@@ -17,9 +17,7 @@ ghost use Rattle.host_tables.specs.Sequence.{spot_of, position_found, position_f
 
 use canon_sequence::{Identifier, Position};
 use canon_sets::{Metadata, Package};
-use header::Header;
-use primer::Entry;
-use st436::{Lines, Payload, Step};
+use st436::Lines;
 
 // The header part of a file whose first bytes are s.
 #[unsafe(no_mangle)]
@@ -29,8 +27,8 @@ pub extern "C" fn brine_header(s: &[u8], out: &mut [u64; 3]) -> u32
 {
     let h = header::find(s);
     match h {
-        Header::Part(p) => *out = [1, p.at as u64, p.len as u64],
-        Header::Nothing => *out = [0, 0, 0],
+        Some(p) => *out = [1, p.at as u64, p.len as u64],
+        None => *out = [0, 0, 0],
     }
     0
 }
@@ -41,11 +39,10 @@ pub extern "C" fn brine_primer(s: &[u8], tag: u64, out: &mut [u64; 2]) -> u32
     ensures value { result ≡ 0 }
     ensures out_after { out.new ≡ start_places (entry_of s.now tag) }
 {
-    let e = primer::find(s, tag);
-    match e {
-        Entry::Label(at) => *out = [1, at as u64],
-        Entry::Nothing => *out = [0, 0],
-    }
+    *out = match primer::find(s, tag) {
+        Some(at) => [1, at as u64],
+        None => [0, 0],
+    };
     0
 }
 
@@ -70,11 +67,10 @@ pub extern "C" fn brine_primer_in(
     ensures value { result ≡ 0 }
     ensures out_after { out.new ≡ start_places (held_for s.now table.now tag) }
 {
-    let e = primer_table::find(s, table, tag);
-    match e {
-        Entry::Label(at) => *out = [1, at as u64],
-        Entry::Nothing => *out = [0, 0],
-    }
+    *out = match primer_table::find(s, table, tag) {
+        Some(at) => [1, at as u64],
+        None => [0, 0],
+    };
     0
 }
 
@@ -100,12 +96,12 @@ pub extern "C" fn brine_payload(element: &[u8], payload: &mut [u8], out: &mut [u
 {
     let p = st436::payload_into(element, payload);
     match p {
-        Payload::Is(n) => {
+        Ok(n) => {
             *out = [n as u64];
             0
         }
-        Payload::Longer(n) => {
-            *out = [n as u64];
+        Err(longer) => {
+            *out = [longer.needed as u64];
             3
         }
     }
@@ -119,14 +115,14 @@ pub extern "C" fn brine_line(element: &[u8], at: usize, left: usize, out: &mut [
 {
     let t = Lines { at, left }.step(element);
     match t {
-        Step::Line(line, next) => *out = [
+        Some((line, next)) => *out = [
             1,
             line.at as u64,
             line.len as u64,
             next.at as u64,
             next.left as u64,
         ],
-        Step::End => *out = [0, 0, 0, at as u64, left as u64],
+        None => *out = [0, 0, 0, at as u64, left as u64],
     }
     0
 }

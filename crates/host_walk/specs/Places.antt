@@ -1,10 +1,11 @@
 -- What the lent places hold after a call: include/brinethimble.h. A refusal leaves them as they were.
-use Rattle.std.specs.Prelude.{ℕ, List, [], ◌∷◌}
+use Rattle.std.specs.Prelude.{ℕ, List, [], ◌∷◌, Err, Ok, Result}
 use Rattle.steps.specs.Told.{Told, ToldAt, found, nothing, refused}
 use Rattle.steps.specs.Next.{Cursor}
 use Rattle.steps.specs.Passed.{Passed}
-use Rattle.lengths.specs.declared.Length.{Length}
-use Rattle.lengths.specs.declared.Length.TheVariants.{Is, Cut, None}
+use Rattle.lengths.specs.declared.Field.{Field}
+use Rattle.lengths.specs.declared.NoLength.{NoLength}
+use Rattle.lengths.specs.declared.NoLength.TheVariants.{Cut, Invalid}
 use Rattle.host_numbers.specs.Numbers.{mark}
 use Rattle.klv.specs.declared.Klv.{Klv}
 use Rattle.klv.specs.Item.{Item}
@@ -29,7 +30,7 @@ step_places (nothing q) out = 0 ∷ 0 ∷ 0 ∷ 0 ∷ q.at ∷ 0 ∷ 0 ∷ 0 ∷
 step_places (refused n q) out = out
 
 -- found, cut or neither; the number; the bytes that it took and whether they are the shortest form
-unfoldable pub length_places : Length → List ℕ
-length_places (Is f) = 1 ∷ f.value ∷ f.size ∷ mark f.shortest ∷ []
-length_places Cut = 2 ∷ 0 ∷ 0 ∷ 0 ∷ []
-length_places None = 0 ∷ 0 ∷ 0 ∷ 0 ∷ []
+unfoldable pub length_places : Result Field NoLength → List ℕ
+length_places (Ok f) = 1 ∷ f.value ∷ f.size ∷ mark f.shortest ∷ []
+length_places (Err Cut) = 2 ∷ 0 ∷ 0 ∷ 0 ∷ []
+length_places (Err Invalid) = 0 ∷ 0 ∷ 0 ∷ 0 ∷ []

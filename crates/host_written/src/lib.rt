@@ -9,20 +9,20 @@ ghost use Rattle.written_tables.specs.Primer.{good_primer, primer_bytes};
 ghost use Rattle.written_packs.specs.Packs.{good_pack, pack_bytes};
 ghost use Rattle.host_written.specs.Places.{written_status, written_places, HostWrote};
 
-use written_lengths::Written;
+use written_lengths::WriteError;
 
 // A writer's answer as a host has it.
-fn answered(w: Written, out: &mut [u64; 1]) -> u32
+fn answered(w: Result<usize, WriteError>, out: &mut [u64; 1]) -> u32
     ensures value { result ≡ written_status w }
     ensures out_after { out.new ≡ written_places w out.old }
 {
     match w {
-        Written::Done(next) => {
+        Ok(next) => {
             *out = [next as u64];
             0
         }
-        Written::Field => 15,
-        Written::Longer(needed) => {
+        Err(WriteError::Field) => 15,
+        Err(WriteError::Longer(needed)) => {
             *out = [needed as u64];
             3
         }

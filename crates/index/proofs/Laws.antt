@@ -16,8 +16,8 @@ use Rattle.parts.proofs.Numbers.{number-below, number_fits}
 use Rattle.index.specs.declared.Entry.{Entry}
 use Rattle.index.specs.declared.Layout.{Layout}
 use Rattle.index.specs.declared.Layout.TheVariants.{Rows, Columns}
-use Rattle.index.specs.declared.Looked.TheVariants as looked
-use Rattle.index.specs.declared.Added.TheVariants.{Done, Short, Field, Start, Order, Full}
+use Rattle.std.specs.Prelude.{Some, None, Ok, Err}
+use Rattle.index.specs.declared.IndexError.TheVariants.{Short, Field, Start, Order, Full}
 use Rattle.index.specs.Places.{start_place, rest_place, slot_of, nth, most_of, entries}
 use Rattle.index.specs.Lists.{listed, end_of, good_fields, starts_by, found_at, count_in, last_in, look_in, early_by, early_in, add_to}
 use Rattle.index.specs.Index.{room_of, list_of, find_of, add_of, holds, find_from, add_from}
@@ -119,16 +119,16 @@ module _ (l : Layout) (down : Bool) (room : ℕ) (b : List ℕ) where
 
   -- Asking
   module _ (n pos : ℕ) where
-    pub look_none : (k : ℕ) → k ≡ count_in (entries l down room b n) pos → k ≡ 0 → looked.Nothing ≡ look_in (entries l down room b n) pos
+    pub look_none : (k : ℕ) → k ≡ count_in (entries l down room b n) pos → k ≡ 0 → None ≡ look_in (entries l down room b n) pos
     unfolding last_in
     look_none k e z = rw (← e, z)
 
     module _ (k : ℕ) (e : suc k ≡ count_in (entries l down room b n) pos) (h : suc k ≤ n) where
-      pub look_at : pos < end_of (nth l down room b k) → looked.At (found_at k (nth l down room b k)) ≡ look_in (entries l down room b n) pos
+      pub look_at : pos < end_of (nth l down room b k) → Some (found_at k (nth l down room b k)) ≡ look_in (entries l down room b n) pos
       unfolding last_in
       look_at m = rw (← e, listed_nth n k (omega arith), lt-ltb _ _ m)
 
-      pub look_past : end_of (nth l down room b k) ≤ pos → looked.Nothing ≡ look_in (entries l down room b n) pos
+      pub look_past : end_of (nth l down room b k) ≤ pos → None ≡ look_in (entries l down room b n) pos
       unfolding last_in
       look_past m = rw (← e, listed_nth n k (omega arith), le-ltb _ _ m)
 
@@ -146,26 +146,26 @@ module _ (l : Layout) (down : Bool) (room : ℕ) (b : List ℕ) where
 -- Adding
 
 module _ (free : Bool) (es : List Entry) (e : Entry) where
-  pub add_field : good_fields e ≡ false → Field ≡ add_to free es e
+  pub add_field : good_fields e ≡ false → Err Field ≡ add_to free es e
   unfolding add_to
   add_field g = rw g
 
   module _ (g : good_fields e ≡ true) where
-    pub add_start : 2 ^ 48 ≤ e.start → Start ≡ add_to free es e
+    pub add_start : 2 ^ 48 ≤ e.start → Err Start ≡ add_to free es e
     unfolding add_to
     add_start s = rw (g, le-ltb _ _ s)
 
     module _ (s : e.start < 2 ^ 48) where
-      pub add_order : early_in es e.start ≡ true → Order ≡ add_to free es e
+      pub add_order : early_in es e.start ≡ true → Err Order ≡ add_to free es e
       unfolding add_to
       add_order o = rw (g, lt-ltb _ _ s, o)
 
       module _ (o : early_in es e.start ≡ false) where
-        pub add_full : free ≡ false → Full ≡ add_to free es e
+        pub add_full : free ≡ false → Err Full ≡ add_to free es e
         unfolding add_to
         add_full f = rw (g, lt-ltb _ _ s, o, f)
 
-        pub add_done : (n : ℕ) → length es ≡ n → free ≡ true → Done (n + 1) ≡ add_to free es e
+        pub add_done : (n : ℕ) → length es ≡ n → free ≡ true → Ok (n + 1) ≡ add_to free es e
         unfolding add_to
         add_done n k f = rw (g, lt-ltb _ _ s, o, f, k)
 
@@ -173,16 +173,16 @@ module _ (free : Bool) (es : List Entry) (e : Entry) where
 
 module _ (l : Layout) (b : List ℕ) (n : ℕ) where
   module _ (pos : ℕ) where
-    pub find_short : room_of b < n → looked.Short ≡ find_of l b n pos
+    pub find_short : room_of b < n → Err Short ≡ find_of l b n pos
     unfolding find_of
     find_short h = rw (lt-leb _ _ h)
 
-    pub find_in : n ≤ room_of b → look_in (list_of l b n) pos ≡ find_of l b n pos
+    pub find_in : n ≤ room_of b → Ok (look_in (list_of l b n) pos) ≡ find_of l b n pos
     unfolding find_of
     find_in h = rw (le-leb _ _ h)
 
   module _ (e : Entry) where
-    pub add_short : room_of b < n → Short ≡ add_of l b n e
+    pub add_short : room_of b < n → Err Short ≡ add_of l b n e
     unfolding add_of
     add_short h = rw (lt-leb _ _ h)
 
@@ -206,24 +206,24 @@ module _ (l : Layout) (down : Bool) (room : ℕ) (b : List ℕ) (n : ℕ) where
   holds-over h k = rw (le-leb _ _ h, lt-leb _ _ k)
 
   module _ (pos : ℕ) where
-    pub from-short : room_of b < room → looked.Short ≡ find_from l down room b n pos
+    pub from-short : room_of b < room → Err Short ≡ find_from l down room b n pos
     unfolding find_from
     from-short h = rw (holds-short h)
 
-    pub from-over : room ≤ room_of b → room < n → looked.Short ≡ find_from l down room b n pos
+    pub from-over : room ≤ room_of b → room < n → Err Short ≡ find_from l down room b n pos
     unfolding find_from
     from-over h k = rw (holds-over h k)
 
-    pub from_in : room ≤ room_of b → n ≤ room → look_in (entries l down room b n) pos ≡ find_from l down room b n pos
+    pub from_in : room ≤ room_of b → n ≤ room → Ok (look_in (entries l down room b n) pos) ≡ find_from l down room b n pos
     unfolding find_from
     from_in h k = rw (holds-is h k)
 
   module _ (free : Bool) (e : Entry) where
-    pub add_from-short : room_of b < room → Short ≡ add_from l down free room b n e
+    pub add_from-short : room_of b < room → Err Short ≡ add_from l down free room b n e
     unfolding add_from
     add_from-short h = rw (holds-short h)
 
-    pub add_from-over : room ≤ room_of b → room < n → Short ≡ add_from l down free room b n e
+    pub add_from-over : room ≤ room_of b → room < n → Err Short ≡ add_from l down free room b n e
     unfolding add_from
     add_from-over h k = rw (holds-over h k)
 

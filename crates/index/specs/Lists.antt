@@ -1,11 +1,9 @@
 -- What asking and adding answer, over the list of entries: docs/RULES.md, "L10. An index beside the file".
-use Rattle.std.specs.Prelude.{ℕ, zero, suc, ◌+◌, ◌-◌, ◌*◌, ◌/◌, ◌^◌, List, Bool, true, false, cond, ◌&&◌, ◌||◌, length, get_or, ltb, leb, eqb}
+use Rattle.std.specs.Prelude.{ℕ, zero, suc, ◌+◌, ◌-◌, ◌*◌, ◌/◌, ◌^◌, List, Bool, true, false, cond, ◌&&◌, ◌||◌, length, get_or, ltb, leb, eqb, Option, Some, None, Result, Ok, Err}
 use Rattle.index.specs.declared.Entry.{Entry}
 use Rattle.index.specs.declared.Found.{Found}
-use Rattle.index.specs.declared.Looked.{Looked}
-use Rattle.index.specs.declared.Looked.TheVariants as looked
-use Rattle.index.specs.declared.Added.{Added}
-use Rattle.index.specs.declared.Added.TheVariants.{Done, Field, Start, Order, Full}
+use Rattle.index.specs.declared.IndexError.{IndexError}
+use Rattle.index.specs.declared.IndexError.TheVariants.{Field, Start, Order, Full}
 
 -- the entry k of a list (past its end: all fields 0)
 abbrev pub listed : List Entry → ℕ → Entry
@@ -56,11 +54,11 @@ abbrev pub found_at : ℕ → Entry → Found
 found_at k e = record { number = k; entry = e }
 
 -- the last of the first n, if it reaches the position
-unfoldable pub last_in : List Entry → ℕ → ℕ → Looked
-last_in es pos zero = looked.Nothing
-last_in es pos (suc k) = cond (ltb pos (end_of (listed es k))) (looked.At (found_at k (listed es k))) looked.Nothing
+unfoldable pub last_in : List Entry → ℕ → ℕ → Option Found
+last_in es pos zero = None
+last_in es pos (suc k) = cond (ltb pos (end_of (listed es k))) (Some (found_at k (listed es k))) None
 
-abbrev pub look_in : List Entry → ℕ → Looked
+abbrev pub look_in : List Entry → ℕ → Option Found
 look_in es pos = last_in es pos (count_in es pos)
 
 -- Adding
@@ -74,11 +72,11 @@ abbrev pub early_in : List Entry → ℕ → Bool
 early_in es start = early_by es (length es) start
 
 -- the answer, where room is free or not
-unfoldable pub add_to : Bool → List Entry → Entry → Added
+unfoldable pub add_to : Bool → List Entry → Entry → Result ℕ IndexError
 add_to free es e =
     cond (good_fields e)
     (cond (ltb e.start (2 ^ 48))
-    (cond (early_in es e.start) Order
-    (cond free (Done (length es + 1)) Full))
-    Start)
-    Field
+    (cond (early_in es e.start) (Err Order)
+    (cond free (Ok (length es + 1)) (Err Full)))
+    (Err Start))
+    (Err Field)

@@ -8,7 +8,7 @@ ghost use Rattle.index.specs.Places.{start_place, rest_place, slot_of, slot_entr
 ghost use Rattle.index.specs.Lists.{end_of, good_fields, one, of_three, of_few, starts_by, count_in, look_in, early_in, add_to};
 ghost use Rattle.index.specs.Index.{written, find_of, add_of, after_add, find_from, add_from, after_from};
 
-#[derive(Clone, Copy)]
+#[derive(Clone, Copy, Debug, PartialEq, Eq)]
 pub struct Entry {
     pub start: u64,
     pub size: u64,
@@ -17,7 +17,7 @@ pub struct Entry {
 }
 
 // How an index is laid out.
-#[derive(Clone, Copy)]
+#[derive(Clone, Copy, Debug, PartialEq, Eq)]
 pub enum Layout {
     // 16 bytes a record.
     Rows,
@@ -130,19 +130,25 @@ fn good(e: Entry) -> bool
 }
 
 // A record that was found: its number in the list, and itself.
-#[derive(Clone, Copy)]
+#[derive(Clone, Copy, Debug, PartialEq, Eq)]
 pub struct Found {
     pub number: usize,
     pub entry: Entry,
 }
 
-// What asking for a byte position answers.
-#[derive(Clone, Copy)]
-pub enum Looked {
-    At(Found),
-    Nothing,
+// Why an index refuses a call.
+#[derive(Clone, Copy, Debug, PartialEq, Eq)]
+pub enum IndexError {
     // 1: more records stated than the buffer holds.
     Short,
+    // 15: a size outside 1 to 9, or a group neither below 64 nor 4095.
+    Field,
+    // 16: a start of 2^48 or more.
+    Start,
+    // 17: a record that begins before the last one's end.
+    Order,
+    // 18: all room is in use.
+    Full,
 }
 
 // The greatest eight bytes of a record that starts at or before a position.
@@ -238,49 +244,32 @@ fn count(l: Layout, down: bool, room: usize, b: &[u8], used: usize, pos: u64) ->
 }
 
 // The record that covers a position, in a room whose records stand from the first slot up or from the last one down.
-fn look(l: Layout, down: bool, room: usize, b: &[u8], used: usize, pos: u64) -> Looked
+fn look(l: Layout, down: bool, room: usize, b: &[u8], used: usize, pos: u64) -> Option<Found>
     requires { (used ≤ room) × (room * 16 ≤ length b.now) }
     ensures { result ≡ look_in (entries l down room b.now used) pos }
 {
     let n = count(l, down, room, b, used, pos);
     if n == 0 {
-        return Looked::Nothing;
+        return None;
     }
     let number = n - 1;
     let e = slot_entry(l, room, b, slot(down, room, number));
     if before_end(e, pos) {
-        Looked::At(Found { number, entry: e })
+        Some(Found { number, entry: e })
     } else {
-        Looked::Nothing
+        None
     }
 }
 
 // The first listed record that covers a position, of so many records in a lent buffer.
-pub fn find(l: Layout, b: &[u8], used: usize, pos: u64) -> Looked
+pub fn find(l: Layout, b: &[u8], used: usize, pos: u64) -> Result<Option<Found>, IndexError>
     ensures { result ≡ find_of l b.now used pos }
 {
     let room = b.len() / 16;
     if room < used {
-        return Looked::Short;
+        return Err(IndexError::Short);
     }
-    look(l, false, room, b, used, pos)
-}
-
-// What adding a record answers.
-#[derive(Clone, Copy)]
-pub enum Added {
-    // 0: so many records are in it now.
-    Done(usize),
-    // 1: more records stated than the buffer holds.
-    Short,
-    // 15: a size outside 1 to 9, or a group neither below 64 nor 4095.
-    Field,
-    // 16: a start of 2^48 or more.
-    Start,
-    // 17: a record that begins before the last one's end.
-    Order,
-    // 18: all room is in use.
-    Full,
+    Ok(look(l, false, room, b, used, pos))
 }
 
 // Whether a record begins before the end of the last one.
@@ -304,50 +293,57 @@ fn insert(
     b: &mut [u8],
     used: usize,
     e: Entry,
-) -> Added
+) -> Result<usize, IndexError>
     requires { (used ≤ room) × (room * 16 ≤ length b.old) × (free ≡ true → used < room) }
     ensures { (result ≡ add_to free (entries l down room b.old used) e) × (b.new ≡ written result l down room b.old used e) }
 {
     if !good(e) {
-        return Added::Field;
+        return Err(IndexError::Field);
     }
     if 0xffff_ffff_ffff < e.start {
-        return Added::Start;
+        return Err(IndexError::Start);
     }
     if early(l, down, room, b, used, e.start) {
-        return Added::Order;
+        return Err(IndexError::Order);
     }
     if !free {
-        return Added::Full;
+        return Err(IndexError::Full);
     }
     let s = slot(down, room, used);
     put_slot(l, room, b, s, e);
     let next = used + 1;
-    Added::Done(next)
+    Ok(next)
 }
 
 // Adds a record behind the last of so many in a lent buffer.
-pub fn add(l: Layout, b: &mut [u8], used: usize, e: Entry) -> Added
+pub fn add(l: Layout, b: &mut [u8], used: usize, e: Entry) -> Result<usize, IndexError>
     ensures { (result ≡ add_of l b.old used e) × (b.new ≡ after_add l b.old used e) }
 {
     let room = b.len() / 16;
     if room < used {
-        return Added::Short;
+        return Err(IndexError::Short);
     }
     insert(l, false, used < room, room, b, used, e)
 }
 
 // The first record that covers a position, of so many that stand from the first slot of a room up, or from its last one down.
-pub fn find_from(l: Layout, down: bool, room: usize, b: &[u8], used: usize, pos: u64) -> Looked
+pub fn find_from(
+    l: Layout,
+    down: bool,
+    room: usize,
+    b: &[u8],
+    used: usize,
+    pos: u64,
+) -> Result<Option<Found>, IndexError>
     ensures { result ≡ find_from l down room b.now used pos }
 {
     if b.len() / 16 < room {
-        return Looked::Short;
+        return Err(IndexError::Short);
     }
     if room < used {
-        return Looked::Short;
+        return Err(IndexError::Short);
     }
-    look(l, down, room, b, used, pos)
+    Ok(look(l, down, room, b, used, pos))
 }
 
 // Adds a record behind the last of these, where one is free and may be given out.
@@ -359,14 +355,14 @@ pub fn add_from(
     b: &mut [u8],
     used: usize,
     e: Entry,
-) -> Added
+) -> Result<usize, IndexError>
     ensures { (result ≡ add_from l down free room b.old used e) × (b.new ≡ after_from l down free room b.old used e) }
 {
     if b.len() / 16 < room {
-        return Added::Short;
+        return Err(IndexError::Short);
     }
     if room < used {
-        return Added::Short;
+        return Err(IndexError::Short);
     }
     insert(l, down, free & (used < room), room, b, used, e)
 }

@@ -18,7 +18,7 @@ use Rattle.index.specs.declared.Layout.TheVariants.{Rows, Columns}
 use Rattle.index.specs.Places.{slot_entry, slot_of, entries}
 use Rattle.index.specs.Index.{room_of, list_of}
 use Rattle.index.proofs.Laws.{slot_in}
-use Rattle.index_layouts.specs.declared.Turned.TheVariants.{Done, Longer}
+use Rattle.std.specs.Prelude.{Ok, Err}
 use Rattle.index_layouts.specs.Turning.{in_columns, in_rows, came_from, turned_by, turned, turn_of, after_turn}
 use Rattle.index_layouts.proofs.Places.{columns_rows, rows_columns, came_in, start-rows, rest-rows}
 
@@ -49,11 +49,11 @@ module _ (to : Layout) (s : List ℕ) where
 
   -- the calls
   module _ (o : List ℕ) where
-    pub turn_short : length o < length s → (Longer (length s) ≡ turn_of s o) × (o ≡ after_turn to s o)
+    pub turn_short : length o < length s → (Err (record { needed = length s }) ≡ turn_of s o) × (o ≡ after_turn to s o)
     unfolding turn_of after_turn
     turn_short h = rw (lt-ltb _ _ h) (refl, refl)
 
-    pub turn_done : length s ≤ length o → (Done ≡ turn_of s o) × (sets o 0 (turned to s) ≡ after_turn to s o)
+    pub turn_done : length s ≤ length o → (Ok tt ≡ turn_of s o) × (sets o 0 (turned to s) ≡ after_turn to s o)
     unfolding turn_of after_turn
     turn_done h = rw (le-ltb _ _ h) (refl, refl)
 

@@ -1,10 +1,9 @@
 -- Rows into columns and back: docs/RULES.md, "L12. Columns instead of rows". Where a byte of one layout stands in the other.
-use Rattle.std.specs.Prelude.{ℕ, zero, suc, ◌+◌, ◌-◌, ◌*◌, ◌/◌, ◌%◌, List, [], ◌∷◌, ◌++◌, cond, length, get_or, ltb}
+use Rattle.std.specs.Prelude.{ℕ, zero, suc, ◌+◌, ◌-◌, ◌*◌, ◌/◌, ◌%◌, List, [], ◌∷◌, ◌++◌, cond, length, get_or, ltb, Result, Ok, Err}
 use Rattle.std.proofs.lemmas.List.Edits.{sets}
 use Rattle.index.specs.declared.Layout.{Layout}
 use Rattle.index.specs.declared.Layout.TheVariants.{Rows, Columns}
-use Rattle.index_layouts.specs.declared.Turned.{Turned}
-use Rattle.index_layouts.specs.declared.Turned.TheVariants.{Done, Longer}
+use Rattle.index_layouts.specs.declared.Longer.{Longer}
 
 -- the byte i of rows stands here in columns
 unfoldable pub in_columns : ℕ → ℕ → ℕ
@@ -29,8 +28,8 @@ abbrev pub turned : Layout → List ℕ → List ℕ
 turned to s = turned_by to s (length s)
 
 -- 3 where the output is shorter
-unfoldable pub turn_of : List ℕ → List ℕ → Turned
-turn_of s o = cond (ltb (length o) (length s)) (Longer (length s)) Done
+unfoldable pub turn_of : List ℕ → List ℕ → Result (Unit {0}) Longer
+turn_of s o = cond (ltb (length o) (length s)) (Err (record { needed = length s })) (Ok tt)
 
 unfoldable pub after_turn : Layout → List ℕ → List ℕ → List ℕ
 after_turn to s o = cond (ltb (length o) (length s)) o (sets o 0 (turned to s))

@@ -7,12 +7,10 @@ ghost use Rattle.index_layouts.specs.Turning.{in_columns, in_rows, came_from, tu
 
 use index::Layout;
 
-// What turning one layout into the other answers.
-#[derive(Clone, Copy)]
-pub enum Turned {
-    Done,
-    // 3: the output is shorter; so many bytes are needed.
-    Longer(usize),
+// 3: the output is shorter; so many bytes are needed.
+#[derive(Clone, Copy, Debug, PartialEq, Eq)]
+pub struct Longer {
+    pub needed: usize,
 }
 
 // Where a byte of rows stands in columns, and a byte of columns in rows.
@@ -55,32 +53,28 @@ fn came_from(to: Layout, room: usize, i: usize) -> usize
     }
 }
 
-fn turn(to: Layout, s: &[u8], out: &mut [u8]) -> Turned
+fn turn(to: Layout, s: &[u8], out: &mut [u8]) -> Result<(), Longer>
     ensures { (result ≡ turn_of s.now out.old) × (out.new ≡ after_turn to s.now out.old) }
 {
     let n = s.len();
     if out.len() < n {
-        return Turned::Longer(n);
+        return Err(Longer { needed: n });
     }
-    let room = n / 16;
-    let mut i = 0;
-    while i < n {
-        let from = came_from(to, room, i);
-        out[i] = s[from];
-        i += 1;
+    for i in 0..n {
+        out[i] = s[came_from(to, n / 16, i)];
     }
-    Turned::Done
+    Ok(())
 }
 
 // The bytes of an index in rows, as columns.
-pub fn to_columns(rows: &[u8], out: &mut [u8]) -> Turned
+pub fn to_columns(rows: &[u8], out: &mut [u8]) -> Result<(), Longer>
     ensures { (result ≡ turn_of rows.now out.old) × (out.new ≡ after_turn Columns rows.now out.old) }
 {
     turn(Layout::Columns, rows, out)
 }
 
 // The bytes of an index in columns, as rows.
-pub fn to_rows(columns: &[u8], out: &mut [u8]) -> Turned
+pub fn to_rows(columns: &[u8], out: &mut [u8]) -> Result<(), Longer>
     ensures { (result ≡ turn_of columns.now out.old) × (out.new ≡ after_turn Rows columns.now out.old) }
 {
     turn(Layout::Rows, columns, out)

@@ -10,8 +10,8 @@ use lib.Dec.{ltb}
 use borrow.Author.Tests.{ltb-true}
 use Rattle.index.specs.declared.Entry.{Entry}
 use Rattle.index.specs.declared.Layout.{Layout}
-use Rattle.index.specs.declared.Added.{Added}
-use Rattle.index.specs.declared.Added.TheVariants.{Done, Short, Field, Start, Order, Full}
+use Rattle.std.specs.Prelude.{Result, Ok, Err}
+use Rattle.index.specs.declared.IndexError.{IndexError}
 use Rattle.index.specs.Places.{entries}
 use Rattle.index.specs.Lists.{look_in}
 use Rattle.index.specs.Index.{written, room_of, list_of, find_of, add_of, after_add}
@@ -23,27 +23,19 @@ use Rattle.index_lists.proofs.Adding.{add_tells, add-to, add_list, made_apart}
 use Rattle.index_lists.proofs.Right.{answers}
 
 -- adding leaves the room
-pub written-length : (r : Added) (l : Layout) (down : Bool) (room : ℕ) (b : List ℕ) (n : ℕ) (e : Entry) → length (written r l down room b n e) ≡ length b
+pub written-length : (r : Result ℕ IndexError) (l : Layout) (down : Bool) (room : ℕ) (b : List ℕ) (n : ℕ) (e : Entry) → length (written r l down room b n e) ≡ length b
 unfolding written
-written-length (Done k) l down room b n e = simp length-sets
-written-length Short l down room b n e = refl
-written-length Field l down room b n e = refl
-written-length Start l down room b n e = refl
-written-length Order l down room b n e = refl
-written-length Full l down room b n e = refl
+written-length (Ok k) l down room b n e = simp length-sets
+written-length (Err r) l down room b n e = refl
 
 pub room-kept : (l : Layout) (b : List ℕ) (n : ℕ) (e : Entry) → room_of (after_add l b n e) ≡ room_of b
 room-kept l b n e = ap (λ (k : ℕ). k / 16) (written-length (add_of l b n e) l false (room_of b) b n e)
 
 -- and a refusal the bytes
-pub refused-left : (r : Added) (l : Layout) (down : Bool) (room : ℕ) (b : List ℕ) (n : ℕ) (e : Entry) → ((k : ℕ) → r ≡ Done k → ⊥) → written r l down room b n e ≡ b
+pub refused-left : (r : Result ℕ IndexError) (l : Layout) (down : Bool) (room : ℕ) (b : List ℕ) (n : ℕ) (e : Entry) → ((k : ℕ) → r ≡ Ok k → ⊥) → written r l down room b n e ≡ b
 unfolding written
-refused-left (Done k) l down room b n e x = absurd (x k refl)
-refused-left Short l down room b n e x = refl
-refused-left Field l down room b n e x = refl
-refused-left Start l down room b n e x = refl
-refused-left Order l down room b n e x = refl
-refused-left Full l down room b n e x = refl
+refused-left (Ok k) l down room b n e x = absurd (x k refl)
+refused-left (Err r) l down room b n e x = refl
 
 pub made_list : (l : Layout) (b : List ℕ) (n : ℕ) → MadeIn l b n → Made (list_of l b n)
 unfolding entries
@@ -63,11 +55,11 @@ module _ (l : Layout) (b : List ℕ) (n : ℕ) (made : MadeIn l b n) where
   index_apart = made_apart (list_of l b n) (made_list l b n made)
 
   -- asking is asking the list, and answers the first record that covers the position, or nothing where none does
-  pub index_look : (pos : ℕ) → find_of l b n pos ≡ look_in (list_of l b n) pos
+  pub index_look : (pos : ℕ) → find_of l b n pos ≡ Ok (look_in (list_of l b n) pos)
   index_look pos = sym (find_in l b n pos (made_room l b n made))
 
-  pub index_answers : (pos : ℕ) → Answers (list_of l b n) pos (find_of l b n pos)
-  index_answers pos = rw (index_look pos) (answers (list_of l b n) (made_list l b n made) pos)
+  pub index_answers : (pos : ℕ) → (find_of l b n pos ≡ Ok (look_in (list_of l b n) pos)) × Answers (list_of l b n) pos (look_in (list_of l b n) pos)
+  index_answers pos = (index_look pos, answers (list_of l b n) (made_list l b n made) pos)
 
 pub indexed : Indexed
 indexed = record {

@@ -10,11 +10,10 @@ use lib.ListN.{length}
 use borrow.Author.Tests.{le-leb, leb-true, leb-false, lt-ltb, le-ltb}
 use Rattle.index.specs.declared.Entry.{Entry}
 use Rattle.index.specs.declared.Found.{Found}
-use Rattle.index.specs.declared.Looked.{Looked}
-use Rattle.index.specs.declared.Looked.TheVariants as looked
+use Rattle.std.specs.Prelude.{Option, Some, None}
 use Rattle.index.specs.Lists.{listed, end_of, starts_by, found_at, count_in, last_in, look_in}
 use Rattle.index.proofs.Narrowing.{Parts, narrowed}
-use Rattle.index_lists.specs.Apart.{Covers, Apart, First, None, Answers, at, nothing, Made}
+use Rattle.index_lists.specs.Apart.{Covers, Apart, First, NoneCovers, Answers, at, nothing, Made}
 use Rattle.index_lists.proofs.Adding.{made_apart}
 
 module _ (es : List Entry) (apart : Apart es) where
@@ -69,25 +68,25 @@ module _ (es : List Entry) (made : Made es) (pos : ℕ) where
   answers = apart-answers es (made_apart es made) pos
 
   -- nothing, exactly when no listed record covers the position
-  pub nothing-none : look_in es pos ≡ looked.Nothing → None es pos
+  pub nothing-none : look_in es pos ≡ None → NoneCovers es pos
   nothing-none e = go (look_in es pos) e answers
     where
-      go : (r : Looked) → r ≡ looked.Nothing → Answers es pos r → None es pos
+      go : (r : Option Found) → r ≡ None → Answers es pos r → NoneCovers es pos
       go r e (at f) = absurd (let z : ◌≡◌ {A = ℕ} 0 1 = cc in omega arith)
       go r e (nothing n) = n
 
-  pub none-nothing : None es pos → look_in es pos ≡ looked.Nothing
+  pub none-nothing : NoneCovers es pos → look_in es pos ≡ None
   none-nothing n = go (look_in es pos) answers
     where
-      go : (r : Looked) → Answers es pos r → r ≡ looked.Nothing
+      go : (r : Option Found) → Answers es pos r → r ≡ None
       go r (at {k = k} f) = absurd (n k f.here f.covers)
       go r (nothing m) = refl
 
   -- a record that is answered is listed with its number, covers the position, and none before it does
-  pub found_first : (k : ℕ) (e : Entry) → look_in es pos ≡ looked.At (found_at k e) → (listed es k ≡ e) × First es pos k
+  pub found_first : (k : ℕ) (e : Entry) → look_in es pos ≡ Some (found_at k e) → (listed es k ≡ e) × First es pos k
   found_first k e x = go (look_in es pos) x answers
     where
-      go : (r : Looked) → r ≡ looked.At (found_at k e) → Answers es pos r → (listed es k ≡ e) × First es pos k
+      go : (r : Option Found) → r ≡ Some (found_at k e) → Answers es pos r → (listed es k ≡ e) × First es pos k
       go r x (at {k = j} f) =
           let z : found_at j (listed es j) ≡ found_at k e = cc in
           let n : j ≡ k = ap (λ (w : Found). w.number) z in

@@ -1,9 +1,7 @@
 -- What asking means, and which lists adding makes: docs/RULES.md, "L10. An index beside the file".
-use Rattle.std.specs.Prelude.{ℕ, suc, ◌≤◌, ◌<◌, ◌≡◌, Bool, List, [], ◌∷◌, ◌++◌, length}
+use Rattle.std.specs.Prelude.{ℕ, suc, ◌≤◌, ◌<◌, ◌≡◌, Bool, List, [], ◌∷◌, ◌++◌, length, Option, Some, None, Ok}
 use Rattle.index.specs.declared.Entry.{Entry}
-use Rattle.index.specs.declared.Looked.{Looked}
-use Rattle.index.specs.declared.Looked.TheVariants.{At, Nothing}
-use Rattle.index.specs.declared.Added.TheVariants.{Done}
+use Rattle.index.specs.declared.Found.{Found}
 use Rattle.index.specs.Lists.{listed, end_of, found_at, add_to}
 
 -- label, length or value covers a position
@@ -21,15 +19,15 @@ pub record First (es : List Entry) (pos k : ℕ) : Type 0 where
   pub first : (j : ℕ) → j < k → Covers (listed es j) pos → ⊥
 
 -- no listed record does
-abbrev pub None : List Entry → ℕ → Type 0
-None es pos = (j : ℕ) → j < length es → Covers (listed es j) pos → ⊥
+abbrev pub NoneCovers : List Entry → ℕ → Type 0
+NoneCovers es pos = (j : ℕ) → j < length es → Covers (listed es j) pos → ⊥
 
 -- the answer that is right
-pub data Answers (es : List Entry) (pos : ℕ) : Looked → Type 0 where
-  at : {k : ℕ} → First es pos k → Answers es pos (At (found_at k (listed es k)))
-  nothing : None es pos → Answers es pos Nothing
+pub data Answers (es : List Entry) (pos : ℕ) : Option Found → Type 0 where
+  at : {k : ℕ} → First es pos k → Answers es pos (Some (found_at k (listed es k)))
+  nothing : NoneCovers es pos → Answers es pos None
 
 -- the lists that adding makes
 pub data Made : List Entry → Type 0 where
   none : Made []
-  more : (es : List Entry) (free : Bool) (e : Entry) (k : ℕ) → Made es → add_to free es e ≡ Done k → Made (es ++ (e ∷ []))
+  more : (es : List Entry) (free : Bool) (e : Entry) (k : ℕ) → Made es → add_to free es e ≡ Ok k → Made (es ++ (e ∷ []))

@@ -29,8 +29,9 @@ use Rattle.records.specs.Records.{finished_from, arriving_from}
 use Rattle.records.proofs.Lists.{Says, list-walked, list_stopped, list_lost, list-short, finished-says, arriving-says}
 use Rattle.records.proofs.Stepping.{stepped_on}
 use Rattle.index.specs.declared.Entry.{Entry}
-use Rattle.index.specs.declared.Added.{Added}
-use Rattle.index.specs.declared.Added.TheVariants.{Done, Short, Field, Start, Order, Full}
+use Rattle.std.specs.Prelude.{Result, Ok, Err}
+use Rattle.index.specs.declared.IndexError.{IndexError}
+use Rattle.index.specs.declared.IndexError.TheVariants.{Field, Start, Order, Full}
 use Rattle.index.specs.Lists.{listed, end_of, good_fields, early_by, early_in, add_to}
 use Rattle.index.proofs.Laws.{add_done}
 use Rattle.index_walks.specs.Walks.{entry_of, entries_for, after_one, add_one, add_all, InOrder, done, next, Groups, WalksIndexed}
@@ -111,11 +112,11 @@ behind_more es e q h =
     let l : length (es ++ (e ∷ [])) ≡ suc (length es) = length-append es (e ∷ []) ∙ omega arith in
     rw (l, get_or-append_seam es e [] (listed [] 0)) (le-ltb q (end_of e) h)
 
-not_order : (free : Bool) (es : List Entry) (e : Entry) → early_in es e.start ≡ false → add_to free es e ≡ Order → ⊥
+not_order : (free : Bool) (es : List Entry) (e : Entry) → early_in es e.start ≡ false → add_to free es e ≡ Err Order → ⊥
 unfolding add_to
 not_order free es e o x = by (good_fields e) (ltb e.start (2 ^ 48)) free (rw o at x)
   where
-    by : (g s f : Bool) → cond g (cond s (cond f (Done (length es + 1)) Full) Start) Field ≡ Order → ⊥
+    by : (g s f : Bool) → cond g (cond s (cond f (Ok (length es + 1)) (Err Full)) (Err Start)) (Err Field) ≡ Err Order → ⊥
     by false s f x = let z : ◌≡◌ {A = ℕ} 0 1 = cc in omega arith
     by true false f x = let z : ◌≡◌ {A = ℕ} 0 1 = cc in omega arith
     by true true true x = let z : ◌≡◌ {A = ℕ} 0 1 = cc in omega arith
@@ -126,19 +127,15 @@ data Fit : List Entry → Type 0 where
   none : Fit []
   more : (e : Entry) (ds : List Entry) → good_fields e ≡ true → e.start < 2 ^ 48 → Fit ds → Fit (e ∷ ds)
 
-done-after : (es : List Entry) (e : Entry) (k : ℕ) → after_one (Done k) es e ≡ es ++ (e ∷ [])
+done-after : (es : List Entry) (e : Entry) (k : ℕ) → after_one (Ok k) es e ≡ es ++ (e ∷ [])
 unfolding after_one
 done-after es e k = refl
 
 module _ (g : Item → ℕ) (room : ℕ) where
-  behind-after : (r : Added) (es : List Entry) (i : Item) (p : ℕ) → Behind es p → p ≤ i.klv.at → i.klv.value ≡ i.klv.at + 16 + i.klv.size → Behind (after_one r es (entry_of g i)) (past i.klv)
+  behind-after : (r : Result ℕ IndexError) (es : List Entry) (i : Item) (p : ℕ) → Behind es p → p ≤ i.klv.at → i.klv.value ≡ i.klv.at + 16 + i.klv.size → Behind (after_one r es (entry_of g i)) (past i.klv)
   unfolding after_one
-  behind-after (Done k) es i p b h v = λ q m. behind_more es (entry_of g i) q (omega arith)
-  behind-after Short es i p b h v = λ q m. b q (omega arith)
-  behind-after Field es i p b h v = λ q m. b q (omega arith)
-  behind-after Start es i p b h v = λ q m. b q (omega arith)
-  behind-after Order es i p b h v = λ q m. b q (omega arith)
-  behind-after Full es i p b h v = λ q m. b q (omega arith)
+  behind-after (Ok k) es i p b h v = λ q m. behind_more es (entry_of g i) q (omega arith)
+  behind-after (Err r) es i p b h v = λ q m. b q (omega arith)
 
   in_order : (e : ℕ) (es : List Entry) (p : ℕ) (is : List Item) → Behind es p → Ascends e p is → InOrder room es (entries_for g is)
   unfolding entries_for
@@ -152,7 +149,7 @@ module _ (g : Item → ℕ) (room : ℕ) where
   all_listed e es p is b (nil q) f h = sym (append-nil es)
   all_listed e es p is b (cons q i js h v a) (more d ds good start f) k =
       let E : Entry = entry_of g i in
-      let x : add_one room es E ≡ Done (length es + 1) =
+      let x : add_one room es E ≡ Ok (length es + 1) =
       sym (add_done (ltb (length es) room) es E good start (b i.klv.at h) (length es) refl (lt-ltb (length es) room (omega arith)))
       in
       let y : after_one (add_one room es E) es E ≡ es ++ (E ∷ []) = rw x (done-after es E (length es + 1)) in

@@ -1,10 +1,10 @@
 -- Adding the records of a walk one after the other: docs/RULES.md, "L10. An index beside the file".
-use Rattle.std.specs.Prelude.{ℕ, ◌≤◌, ◌<◌, ◌^◌, ◌≡◌, true, ◌||◌, List, [], ◌∷◌, ◌++◌, length, ltb, eqb}
+use Rattle.std.specs.Prelude.{ℕ, ◌≤◌, ◌^◌, ◌≡◌, true, ◌||◌, List, [], ◌∷◌, ◌++◌, length, ltb, eqb, Result, Ok, Err}
 use Rattle.klv.specs.Item.{Item}
 use Rattle.records.specs.Records.{finished_from, arriving_from}
 use Rattle.index.specs.declared.Entry.{Entry}
-use Rattle.index.specs.declared.Added.{Added}
-use Rattle.index.specs.declared.Added.TheVariants.{Done, Short, Field, Start, Order, Full}
+use Rattle.index.specs.declared.IndexError.{IndexError}
+use Rattle.index.specs.declared.IndexError.TheVariants.{Order}
 use Rattle.index.specs.Lists.{add_to}
 
 -- a record as an entry, its group told by g
@@ -16,16 +16,12 @@ entries_for g [] = []
 entries_for g (i ∷ is) = entry_of g i ∷ entries_for g is
 
 -- the list after an answer: a refusal leaves it
-unfoldable pub after_one : Added → List Entry → Entry → List Entry
-after_one (Done k) es e = es ++ (e ∷ [])
-after_one Short es e = es
-after_one Field es e = es
-after_one Start es e = es
-after_one Order es e = es
-after_one Full es e = es
+unfoldable pub after_one : Result ℕ IndexError → List Entry → Entry → List Entry
+after_one (Ok k) es e = es ++ (e ∷ [])
+after_one (Err r) es e = es
 
 -- adding with room for so many
-abbrev pub add_one : ℕ → List Entry → Entry → Added
+abbrev pub add_one : ℕ → List Entry → Entry → Result ℕ IndexError
 add_one room es e = add_to (ltb (length es) room) es e
 
 unfoldable pub add_all : ℕ → List Entry → List Entry → List Entry
@@ -35,7 +31,7 @@ add_all room es (e ∷ ds) = add_all room (after_one (add_one room es e) es e) d
 -- none of them is refused for its order, 17
 pub data InOrder (room : ℕ) : List Entry → List Entry → Type 0 where
   done : (es : List Entry) → InOrder room es []
-  next : (es : List Entry) (e : Entry) (ds : List Entry) → (add_one room es e ≡ Order → ⊥) → InOrder room (after_one (add_one room es e) es e) ds → InOrder room es (e ∷ ds)
+  next : (es : List Entry) (e : Entry) (ds : List Entry) → (add_one room es e ≡ Err Order → ⊥) → InOrder room (after_one (add_one room es e) es e) ds → InOrder room es (e ∷ ds)
 
 -- a group below 64, or 4095
 abbrev pub Groups : (Item → ℕ) → Type 0

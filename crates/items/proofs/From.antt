@@ -1,4 +1,5 @@
 -- The items from a place on, by what a step there answers: how a loop over them goes. Assumes nothing.
+use Rattle.std.specs.Prelude.{Option, Some, None}
 use Prim.Native.Nat.{ℕ}
 use mathlib.Core.Path.{◌≡◌, sym, ap, ◌∙◌}
 use mathlib.Core.List.{List, [], ◌∷◌}
@@ -10,10 +11,6 @@ use Rattle.klv.specs.declared.Klv.{Klv}
 use Rattle.klv.specs.Item.{Item, item}
 use Rattle.items.specs.declared.Run.{Run}
 use Rattle.items.specs.declared.Local.{Local}
-use Rattle.items.specs.declared.RunNext.{RunNext}
-use Rattle.items.specs.declared.RunNext.TheVariants as run
-use Rattle.items.specs.declared.LocalNext.{LocalNext}
-use Rattle.items.specs.declared.LocalNext.TheVariants as local
 use Rattle.items.specs.Items.{item_step}
 use Rattle.items.specs.Told.{told, local_told}
 use Rattle.items.proofs.Lists.{item-listed}
@@ -31,17 +28,17 @@ module _ (key : ℕ) (ber : Bool) (s : List ℕ) (p : ℕ) where
   one_more i q e = item-listed key ber s p ∙ ap (before (items_from key ber s)) e
 
   -- what a step over a set's items answers
-  pub local_item : (h : LocalNext) → local_told key s p h ≡ item_step key ber s p → (k : Klv) (next : Local) → h ≡ local.Item k next
+  pub local_item : (h : Option (Klv × Local)) → local_told key s p h ≡ item_step key ber s p → (k : Klv) (next : Local) → h ≡ Some (k, next)
       → item_step key ber s p ≡ found (item key s k) next.at
   local_item h t k next e = sym (rw e at t)
 
-  pub local_end : (h : LocalNext) → local_told key s p h ≡ item_step key ber s p → h ≡ local.End → item_step key ber s p ≡ nothing p
+  pub local_end : (h : Option (Klv × Local)) → local_told key s p h ≡ item_step key ber s p → h ≡ None → item_step key ber s p ≡ nothing p
   local_end h t e = sym (rw e at t)
 
 -- and a step of a run
-pub run-item : (s : List ℕ) (p : ℕ) (h : RunNext) → told s p h ≡ item_step 16 true s p → (k : Klv) (next : Run) → h ≡ run.Item k next
+pub run-item : (s : List ℕ) (p : ℕ) (h : Option (Klv × Run)) → told s p h ≡ item_step 16 true s p → (k : Klv) (next : Run) → h ≡ Some (k, next)
     → item_step 16 true s p ≡ found (item 16 s k) next.at
 run-item s p h t k next e = sym (rw e at t)
 
-pub run_end : (s : List ℕ) (p : ℕ) (h : RunNext) → told s p h ≡ item_step 16 true s p → h ≡ run.End → item_step 16 true s p ≡ nothing p
+pub run_end : (s : List ℕ) (p : ℕ) (h : Option (Klv × Run)) → told s p h ≡ item_step 16 true s p → h ≡ None → item_step 16 true s p ≡ nothing p
 run_end s p h t e = sym (rw e at t)

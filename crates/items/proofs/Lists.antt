@@ -1,4 +1,8 @@
 -- The list of items goes as its steps say, and an answer says which. Assumes nothing.
+use Rattle.std.specs.Prelude.{Option, Some, None}
+use Rattle.klv.specs.declared.Klv.{Klv}
+use Rattle.items.specs.declared.Run.{Run}
+use Rattle.items.specs.declared.Local.{Local}
 use Prim.Native.Nat.{ℕ}
 use mathlib.Core.Path.{◌≡◌, refl}
 use mathlib.Core.List.{List}
@@ -8,10 +12,6 @@ use lib.ListN.{length}
 use Rattle.steps.specs.Listed.{before, list_from}
 use Rattle.steps.proofs.Laws.{Moves, listed}
 use Rattle.klv.specs.Item.{item}
-use Rattle.items.specs.declared.RunNext.{RunNext}
-use Rattle.items.specs.declared.RunNext.TheVariants as run
-use Rattle.items.specs.declared.LocalNext.{LocalNext}
-use Rattle.items.specs.declared.LocalNext.TheVariants as local
 use Rattle.items.specs.Items.{item_step}
 use Rattle.items.specs.Told.{told, local_told}
 use Rattle.items.proofs.Laws.{item-fits}
@@ -25,20 +25,20 @@ pub item-listed : (key : ℕ) (ber : Bool) (s : List ℕ) (p : ℕ)
 item-listed key ber s = listed (item_step key ber s) (length s) (item_moves key ber s)
 
 -- two answers that say the same are the same
-pub told_once : (s : List ℕ) (p : ℕ) (a b : RunNext) → told s p a ≡ told s p b → a ≡ b
-told_once s p (run.Item k m) (run.Item l n) e =
+pub told_once : (s : List ℕ) (p : ℕ) (a b : Option (Klv × Run)) → told s p a ≡ told s p b → a ≡ b
+told_once s p (Some (k, m)) (Some (l, n)) e =
     let x : item 16 s k ≡ item 16 s l = cc in
     let y : m.at ≡ n.at = cc in
-    λ i. run.Item (x i).klv (record { at = y i })
-told_once s p (run.Item k m) run.End e = let z : ◌≡◌ {A = ℕ} 0 1 = cc in absurd (omega arith)
-told_once s p run.End (run.Item l n) e = let z : ◌≡◌ {A = ℕ} 0 1 = cc in absurd (omega arith)
-told_once s p run.End run.End e = refl
+    λ i. Some ((x i).klv, record { at = y i })
+told_once s p (Some (k, m)) None e = let z : ◌≡◌ {A = ℕ} 0 1 = cc in absurd (omega arith)
+told_once s p None (Some (l, n)) e = let z : ◌≡◌ {A = ℕ} 0 1 = cc in absurd (omega arith)
+told_once s p None None e = refl
 
-pub local_once : (tag : ℕ) (s : List ℕ) (p : ℕ) (a b : LocalNext) → local_told tag s p a ≡ local_told tag s p b → a ≡ b
-local_once tag s p (local.Item k m) (local.Item l n) e =
+pub local_once : (tag : ℕ) (s : List ℕ) (p : ℕ) (a b : Option (Klv × Local)) → local_told tag s p a ≡ local_told tag s p b → a ≡ b
+local_once tag s p (Some (k, m)) (Some (l, n)) e =
     let x : item tag s k ≡ item tag s l = cc in
     let y : m.at ≡ n.at = cc in
-    λ i. local.Item (x i).klv (record { at = y i })
-local_once tag s p (local.Item k m) local.End e = let z : ◌≡◌ {A = ℕ} 0 1 = cc in absurd (omega arith)
-local_once tag s p local.End (local.Item l n) e = let z : ◌≡◌ {A = ℕ} 0 1 = cc in absurd (omega arith)
-local_once tag s p local.End local.End e = refl
+    λ i. Some ((x i).klv, record { at = y i })
+local_once tag s p (Some (k, m)) None e = let z : ◌≡◌ {A = ℕ} 0 1 = cc in absurd (omega arith)
+local_once tag s p None (Some (l, n)) e = let z : ◌≡◌ {A = ℕ} 0 1 = cc in absurd (omega arith)
+local_once tag s p None None e = refl

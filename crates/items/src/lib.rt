@@ -9,10 +9,10 @@ ghost use Rattle.items.specs.Items.{length_in, item_step, run_step, coding_of};
 ghost use Rattle.items.specs.Told.{whole_told, told, local_told};
 
 use klv::Klv;
-use lengths::Length;
+use lengths::{Field, NoLength};
 
 // The length at a place in one of the two codings: BER, or two bytes.
-fn length_in(s: &[u8], at: usize, ber: bool) -> Length
+fn length_in(s: &[u8], at: usize, ber: bool) -> Result<Field, NoLength>
     ensures { result ≡ length_in ber s.now at }
 {
     if ber {
@@ -21,35 +21,28 @@ fn length_in(s: &[u8], at: usize, ber: bool) -> Length
     lengths::read_two(s, at)
 }
 
-// An item that is whole, or none.
-#[derive(Clone, Copy)]
-enum Whole {
-    Is(Klv),
-    No,
-}
-
-// The item at a place whose key takes that many bytes.
-fn item_at(s: &[u8], at: usize, key: usize, ber: bool) -> Whole
+// The item at a place whose key takes that many bytes, where it is whole.
+fn item_at(s: &[u8], at: usize, key: usize, ber: bool) -> Option<Klv>
     ensures { whole_told key s.now at result ≡ item_step key ber s.now at }
 {
     if s.len() < key {
-        return Whole::No;
+        return None;
     }
     if s.len() - key < at {
-        return Whole::No;
+        return None;
     }
     let after = at + key;
     let l = length_in(s, after, ber);
-    let Length::Is(f) = l else {
-        return Whole::No;
+    let Ok(f) = l else {
+        return None;
     };
     let value = after + f.size;
     let n = f.value;
     let room = s.len() - value;
     if (room as u64) < n {
-        return Whole::No;
+        return None;
     }
-    Whole::Is(Klv {
+    Some(Klv {
         at,
         value,
         len: n as usize,
@@ -64,26 +57,14 @@ pub struct Run {
     pub at: usize,
 }
 
-// What a step of a run finds.
-#[derive(Clone, Copy)]
-pub enum RunNext {
-    // A KLV, and the cursor past it.
-    Item(Klv, Run),
-    // No whole one is left.
-    End,
-}
-
 impl Run {
-    // The KLV at the cursor, with the moved cursor, or the end.
-    pub fn step(self, s: &[u8]) -> RunNext
+    // The KLV at the cursor, with the cursor past it; none where no whole one is left.
+    pub fn step(self, s: &[u8]) -> Option<(Klv, Run)>
         ensures { told s.now self.at result ≡ run_step s.now self.at }
     {
-        let w = item_at(s, self.at, 16, true);
-        let Whole::Is(k) = w else {
-            return RunNext::End;
-        };
+        let k = item_at(s, self.at, 16, true)?;
         let next = k.value + k.len;
-        RunNext::Item(k, Run { at: next })
+        Some((k, Run { at: next }))
     }
 }
 
@@ -122,25 +103,13 @@ pub struct Local {
     pub at: usize,
 }
 
-// What a step over a set's items finds.
-#[derive(Clone, Copy)]
-pub enum LocalNext {
-    // An item, its tag where it starts, and the cursor past it.
-    Item(Klv, Local),
-    // No whole one is left.
-    End,
-}
-
 impl Local {
-    // The item at the cursor, with the moved cursor, or the end.
-    pub fn step(self, s: &[u8], coding: Coding) -> LocalNext
+    // The item at the cursor, its tag where it starts, with the cursor past it; none where no whole one is left.
+    pub fn step(self, s: &[u8], coding: Coding) -> Option<(Klv, Local)>
         ensures { local_told coding.tag s.now self.at result ≡ item_step coding.tag coding.ber s.now self.at }
     {
-        let w = item_at(s, self.at, coding.tag, coding.ber);
-        let Whole::Is(k) = w else {
-            return LocalNext::End;
-        };
+        let k = item_at(s, self.at, coding.tag, coding.ber)?;
         let next = k.value + k.len;
-        LocalNext::Item(k, Local { at: next })
+        Some((k, Local { at: next }))
     }
 }

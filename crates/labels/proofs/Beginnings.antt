@@ -6,7 +6,8 @@ use mathlib.Core.Bool.{true, false, and-false, false≢true}
 use native.Mathlib.Numerals.{add-one}
 use native.Mathlib.Omega.{arith}
 use borrow.Author.Tests.{eq-eqb, ne_eqb, eqb-true}
-use lib.ListN.{length, get_or, drop, drop_of_length-le}
+use lib.ListN.{length, get_or, take, drop, drop_of_length-le}
+use lib.Pointwise.{pointwise}
 use lib.Dec.{eqb}
 use lib.Seq.{drop-cons}
 use Rattle.labels.specs.Label.{beginning}
@@ -52,3 +53,10 @@ begins-bytes [] k e j h = absurd (omega arith)
 begins-bytes (x ∷ l) [] e j h = absurd (false≢true e)
 begins-bytes (x ∷ l) (y ∷ k) e zero h = eqb-true _ _ (and_first (eqb x y) _ e)
 begins-bytes (x ∷ l) (y ∷ k) e (suc j) h = begins-bytes l k (and_second (eqb x y) _ e) j (omega arith)
+
+-- `k.starts_with(l)` says whether l is a beginning of k
+pub starts-with : (l k : List ℕ) → pointwise eqb l (take (length l) k) ≡ beginning l k
+unfolding beginning
+starts-with [] k = refl
+starts-with (x ∷ l) [] = refl
+starts-with (x ∷ l) (y ∷ k) = rw (starts-with l k)

@@ -23,17 +23,7 @@ pub const RANDOM_INDEX: [u8; 16] =
 pub fn begins(l: &[u8], k: &[u8]) -> bool
     ensures { result ≡ beginning l.now k.now }
 {
-    let mut i = 0;
-    while i < l.len() {
-        if k.len() <= i {
-            return false;
-        }
-        if l[i] != k[i] {
-            return false;
-        }
-        i += 1;
-    }
-    true
+    k.starts_with(l)
 }
 
 // Whether two labels have 16 bytes each and agree in all but those at three places. The one branch on their bytes stands
@@ -48,13 +38,11 @@ pub fn agree_but(a: &[u8], b: &[u8], x: usize, y: usize, z: usize) -> bool
         return false;
     }
     let mut agree = true;
-    let mut i = 0;
-    while i < 16 {
+    for i in 0..16 {
         if (i == 8) & !agree {
             return false;
         }
         agree = agree & (((i == x) | ((i == y) | (i == z))) | (a[i] == b[i]));
-        i += 1;
     }
     agree
 }

@@ -1,4 +1,5 @@
 -- The definition of "shortest" looks at one shorter form; the forms grow with their size, so it speaks of all of them. Assumes nothing.
+use Rattle.std.specs.Prelude.{Ok, Result}
 use Prim.Native.Nat.{ℕ, zero, suc, ◌+◌, ◌≤◌, ◌<◌}
 use mathlib.Core.Path.{◌≡◌, sym, ◌∙◌}
 use mathlib.Core.List.{List}
@@ -11,8 +12,8 @@ use lib.Dec.{lit<}
 use Rattle.parts.specs.Bytes.{Bytes}
 use Rattle.parts.specs.Number.{number_at}
 use Rattle.parts.proofs.Numbers.{number-below}
-use Rattle.lengths.specs.declared.Length.{Length}
-use Rattle.lengths.specs.declared.Length.TheVariants.{Is}
+use Rattle.lengths.specs.declared.Field.{Field}
+use Rattle.lengths.specs.declared.NoLength.{NoLength}
 use Rattle.lengths.specs.Length.{bound_of, shortest_of, field, length_at}
 use Rattle.lengths.specs.Forms.{NoShorter, Form, Forms}
 use Rattle.lengths.proofs.Laws.{shortest_eighty, shortest_else, Case, c_past, c_short, c_none, c_cut, c_long, case}
@@ -58,7 +59,7 @@ module _ (first n v : ℕ) where
 pub forms : Forms
 forms s at f b e = go (length_at s at) (case s at) e
   where
-    go : (l : Length) → Case s at l → l ≡ Is f → Form (get_or s at 0) f
+    go : (l : Result Field NoLength) → Case s at l → l ≡ Ok f → Form (get_or s at 0) f
     go l (c_past h) e = let z : ◌≡◌ {A = ℕ} 0 1 = cc in absurd (omega arith)
     go l (c_short h x) e =
         let first = get_or s at 0 in

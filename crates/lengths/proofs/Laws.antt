@@ -1,4 +1,5 @@
 -- Laws of `specs/Length.antt`: its cases, each from facts about numbers, and the view that chooses one. Assumes nothing.
+use Rattle.std.specs.Prelude.{Err, Ok, Result}
 use Prim.Native.Nat.{ℕ, suc, ◌+◌, ◌-◌, ◌%◌, ◌^◌, ◌≤◌, ◌<◌}
 use mathlib.Core.Path.{◌≡◌, refl, sym, ap, ◌∙◌}
 use mathlib.Core.List.{List}
@@ -15,8 +16,8 @@ use Rattle.parts.specs.Bytes.{Bytes}
 use Rattle.parts.proofs.Numbers.{number_low, number_high}
 use Rattle.parts.proofs.Parts.{number_read}
 use Rattle.lengths.specs.declared.Field.{Field}
-use Rattle.lengths.specs.declared.Length.{Length}
-use Rattle.lengths.specs.declared.Length.TheVariants.{Is, Cut, None}
+use Rattle.lengths.specs.declared.NoLength.{NoLength}
+use Rattle.lengths.specs.declared.NoLength.TheVariants.{Cut, Invalid}
 use Rattle.lengths.specs.Length.{bound_of, shortest_of, field, two_field, held_at, length_by, length_at}
 
 -- The shortest form
@@ -53,34 +54,34 @@ module _ (s : List ℕ) (from first n : ℕ) (b : Bytes s) (e : first ≡ 0x80 �
       (λ h. w ∙ lt-leb _ _ (number_low s from (suc (n - 2)) b (omega arith)) ∙ rw (eq-eqb (get_or s from 0) 0 (omega arith)) refl))
 
 module _ (build : ℕ → Field) (s : List ℕ) (from n : ℕ) where
-  pub held : from + n ≤ length s → held_at build s from n ≡ Is (build (number_at s from n))
+  pub held : from + n ≤ length s → held_at build s from n ≡ Ok (build (number_at s from n))
   unfolding held_at
   held h = simp (le-leb _ _ h)
 
   -- the same from what `number` answers of the part
   pub held_read : Bytes s → n ≤ 8 → from + n ≤ length s → (v : ℕ) → v ≡ number_of (take (from + n - from) (drop from s)) % 2 ^ 64
-      → held_at build s from n ≡ Is (build v)
-  held_read b m h v e = held h ∙ ap (λ (k : ℕ). Is (build k)) (sym (e ∙ number_read s from n b m h))
+      → held_at build s from n ≡ Ok (build v)
+  held_read b m h v e = held h ∙ ap (λ (k : ℕ). Ok (build k)) (sym (e ∙ number_read s from n b m h))
 
-  pub held_cut : length s < from + n → held_at build s from n ≡ Cut
+  pub held_cut : length s < from + n → held_at build s from n ≡ Err Cut
   unfolding held_at
   held_cut h = simp (lt-leb _ _ h)
 
 module _ (s : List ℕ) (at : ℕ) where
-  pub past : length s ≤ at → length_at s at ≡ Cut
+  pub past : length s ≤ at → length_at s at ≡ Err Cut
   unfolding length_at
   past h = simp (le-ltb _ _ h)
 
   module _ (h : at < length s) where
-    pub short : get_or s at 0 < 0x80 → length_at s at ≡ Is (field (get_or s at 0) 1 (get_or s at 0))
+    pub short : get_or s at 0 < 0x80 → length_at s at ≡ Ok (field (get_or s at 0) 1 (get_or s at 0))
     unfolding length_at length_by
     short b = simp (lt-ltb _ _ h, lt-ltb _ _ b)
 
     -- as `read` answers it
-    pub short_read : get_or s at 0 < 0x80 → length_at s at ≡ Is (record { value = get_or s at 0; size = 1; shortest = true })
+    pub short_read : get_or s at 0 < 0x80 → length_at s at ≡ Ok (record { value = get_or s at 0; size = 1; shortest = true })
     short_read b = short b ∙ rw (shortest-one (get_or s at 0) b)
 
-    pub no_length : 0x88 < get_or s at 0 → length_at s at ≡ None
+    pub no_length : 0x88 < get_or s at 0 → length_at s at ≡ Err Invalid
     unfolding length_at length_by
     no_length b = simp (lt-ltb _ _ h, le-ltb (get_or s at 0) 0x80 (omega arith), lt-leb _ _ b)
 
@@ -89,12 +90,12 @@ module _ (s : List ℕ) (at : ℕ) where
     more low high = simp (lt-ltb _ _ h, le-ltb _ _ low, le-leb _ _ high)
 
 -- What stands at a place, with what holds there
-pub data Case (s : List ℕ) (at : ℕ) : Length → Type 0 where
-  c_past : length s ≤ at → Case s at Cut
-  c_short : at < length s → get_or s at 0 < 0x80 → Case s at (Is (field (get_or s at 0) 1 (get_or s at 0)))
-  c_none : at < length s → 0x88 < get_or s at 0 → Case s at None
-  c_cut : (n : ℕ) → get_or s at 0 ≡ 0x80 + n → n ≤ 8 → at < length s → length s < at + 1 + n → Case s at Cut
-  c_long : (n : ℕ) → get_or s at 0 ≡ 0x80 + n → n ≤ 8 → at + 1 + n ≤ length s → Case s at (Is (field (get_or s at 0) (1 + n) (number_at s (at + 1) n)))
+pub data Case (s : List ℕ) (at : ℕ) : Result Field NoLength → Type 0 where
+  c_past : length s ≤ at → Case s at (Err Cut)
+  c_short : at < length s → get_or s at 0 < 0x80 → Case s at (Ok (field (get_or s at 0) 1 (get_or s at 0)))
+  c_none : at < length s → 0x88 < get_or s at 0 → Case s at (Err Invalid)
+  c_cut : (n : ℕ) → get_or s at 0 ≡ 0x80 + n → n ≤ 8 → at < length s → length s < at + 1 + n → Case s at (Err Cut)
+  c_long : (n : ℕ) → get_or s at 0 ≡ 0x80 + n → n ≤ 8 → at + 1 + n ≤ length s → Case s at (Ok (field (get_or s at 0) (1 + n) (number_at s (at + 1) n)))
 
 pub case : (s : List ℕ) (at : ℕ) → Case s at (length_at s at)
 case s at =
@@ -115,17 +116,17 @@ pub record Taken (s : List ℕ) (at size : ℕ) : Type 0 where
   pub most : size ≤ 9
   pub there : at + size ≤ length s
 
-pub taken : (s : List ℕ) (at : ℕ) (f : Field) → length_at s at ≡ Is f → Taken s at f.size
+pub taken : (s : List ℕ) (at : ℕ) (f : Field) → length_at s at ≡ Ok f → Taken s at f.size
 taken s at f e = go (length_at s at) (case s at) e
   where
-    go : (l : Length) → Case s at l → l ≡ Is f → Taken s at f.size
+    go : (l : Result Field NoLength) → Case s at l → l ≡ Ok f → Taken s at f.size
     go l (c_past h) e = let z : ◌≡◌ {A = ℕ} 0 1 = cc in omega arith
     go l (c_short h b) e = let z : 1 ≡ f.size = cc in omega arith
     go l (c_none h b) e = let z : ◌≡◌ {A = ℕ} 0 1 = cc in omega arith
     go l (c_cut n b m h k) e = let z : ◌≡◌ {A = ℕ} 0 1 = cc in omega arith
     go l (c_long n b m h) e = let z : 1 + n ≡ f.size = cc in omega arith
 
-pub taken-two : (s : List ℕ) (at : ℕ) (f : Field) → held_at two_field s at 2 ≡ Is f → Taken s at f.size
+pub taken-two : (s : List ℕ) (at : ℕ) (f : Field) → held_at two_field s at 2 ≡ Ok f → Taken s at f.size
 taken-two s at f e =
     by_cases (dec_lt (length s) (at + 2))
     (λ h. let w = held_cut two_field s at 2 h in let z : ◌≡◌ {A = ℕ} 0 1 = cc in omega arith)

@@ -1,4 +1,4 @@
 pub mod Laws
 pub mod Forms
 pub mod Spans
-pub mod Enums
+pub mod Errors

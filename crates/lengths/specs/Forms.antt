@@ -1,8 +1,7 @@
 -- What "shortest" says of a length: docs/RULES.md, "L1. How long the length field was".
-use Rattle.std.specs.Prelude.{ℕ, ◌≤◌, ◌<◌, ◌≡◌, List, true, get_or}
+use Rattle.std.specs.Prelude.{ℕ, ◌≤◌, ◌<◌, ◌≡◌, List, true, get_or, Ok}
 use Rattle.parts.specs.Bytes.{Bytes}
 use Rattle.lengths.specs.declared.Field.{Field}
-use Rattle.lengths.specs.declared.Length.TheVariants.{Is}
 use Rattle.lengths.specs.Length.{bound_of, length_at}
 
 -- its first byte is not 80h, and no form of fewer bytes holds the number
@@ -19,4 +18,4 @@ pub record Form (first : ℕ) (f : Field) : Type 0 where
   pub only_so : NoShorter first f → f.shortest ≡ true
 
 abbrev pub Forms : Type 0
-Forms = (s : List ℕ) (at : ℕ) (f : Field) → Bytes s → length_at s at ≡ Is f → Form (get_or s at 0) f
+Forms = (s : List ℕ) (at : ℕ) (f : Field) → Bytes s → length_at s at ≡ Ok f → Form (get_or s at 0) f

@@ -6,24 +6,23 @@ ghost use Rattle.std.specs.Prelude.{◌≡◌, ◌+◌, ◌≤◌, length};
 ghost use Rattle.parts.specs.Number.{number_at};
 ghost use Rattle.lengths.specs.Length.{shortest_of, length_at, two_bytes_at};
 
-use parts::{number, u64_of};
+use parts::number;
 
 // A length: its value, how many bytes it took, and whether no shorter form would have held it.
-#[derive(Clone, Copy)]
+#[derive(Clone, Copy, Debug, PartialEq, Eq)]
 pub struct Field {
     pub value: u64,
     pub size: usize,
     pub shortest: bool,
 }
 
-// What stands at a place where a length is wanted.
-#[derive(Clone, Copy)]
-pub enum Length {
-    Is(Field),
+// Why no length is read at a place.
+#[derive(Clone, Copy, Debug, PartialEq, Eq)]
+pub enum NoLength {
     // Its bytes are not all there.
     Cut,
     // A first byte that begins no length.
-    None,
+    Invalid,
 }
 
 // Whether no shorter form holds the value of a first byte and n more from a place on: a form of a byte less, where there
@@ -45,32 +44,32 @@ fn shortest(s: &[u8], from: usize, first: u8, n: usize, value: u64) -> bool
 }
 
 // The length at a place, which may lie anywhere.
-pub fn read(s: &[u8], at: usize) -> Length
+pub fn read(s: &[u8], at: usize) -> Result<Field, NoLength>
     ensures { result ≡ length_at s.now at }
 {
     if s.len() <= at {
-        return Length::Cut;
+        return Err(NoLength::Cut);
     }
     let first = s[at];
     if first < 0x80 {
-        return Length::Is(Field {
-            value: u64_of(first),
+        return Ok(Field {
+            value: u64::from(first),
             size: 1,
             shortest: true,
         });
     }
     if 0x88 < first {
-        return Length::None;
+        return Err(NoLength::Invalid);
     }
     let n = (first - 0x80) as usize;
     let from = at + 1;
     if s.len() - from < n {
-        return Length::Cut;
+        return Err(NoLength::Cut);
     }
     let end = from + n;
     let size = 1 + n;
     let value = number(&s[from..end]);
-    Length::Is(Field {
+    Ok(Field {
         value,
         size,
         shortest: shortest(s, from, first, n, value),
@@ -78,17 +77,17 @@ pub fn read(s: &[u8], at: usize) -> Length
 }
 
 // The length of two bytes at a place, which may lie anywhere: a local item's.
-pub fn read_two(s: &[u8], at: usize) -> Length
+pub fn read_two(s: &[u8], at: usize) -> Result<Field, NoLength>
     ensures { result ≡ two_bytes_at s.now at }
 {
     if s.len() < 2 {
-        return Length::Cut;
+        return Err(NoLength::Cut);
     }
     if s.len() - 2 < at {
-        return Length::Cut;
+        return Err(NoLength::Cut);
     }
     let end = at + 2;
-    Length::Is(Field {
+    Ok(Field {
         value: number(&s[at..end]),
         size: 2,
         shortest: true,

@@ -3,23 +3,21 @@ use Prim.Native.Nat.{ℕ, ◌-◌, ◌≤◌}
 use mathlib.Core.Path.{◌≡◌, refl, ap, ◌∙◌}
 use mathlib.Core.List.{List, [], ◌∷◌}
 use mathlib.Core.Bool.{Bool, true, false, and-false}
-use mathlib.Core.Logic.{by_cases, ⊎_elim}
+use mathlib.Core.Logic.{by_cases}
 use native.Mathlib.Omega.{arith}
 use native.Mathlib.Decide.{dec_lt}
 use borrow.Author.Tests.{le-leb, lt-leb, eq-eqb, ne_eqb}
 use lib.ListN.{length, get_or, take}
 use lib.Seq.{sets}
-use types.Run.{OneOf}
-use denote.Enum.Declared.{tag_of}
+use Rattle.std.specs.Prelude.{Ok, Err}
 use Rattle.io.specs.Counts.{IsPrefixLen}
 use Rattle.io.proofs.Counting.{prefix_len_of_le}
 use Rattle.text.specs.Write.{Put}
 use Rattle.text.proofs.Sizes.{put_whole, put-room}
-use Rattle.outline_text.specs.declared.Outlined.{Outlined}
-use Rattle.outline_text.specs.declared.Outlined.TheVariants.{Is, Refused, Depth, Longer}
+use Rattle.outline_text.specs.declared.OutlineError.{OutlineError}
+use Rattle.outline_text.specs.declared.OutlineError.TheVariants.{End, Depth, Longer}
 use Rattle.outline_text.specs.Text.{outline_text}
 use Rattle.outline_text.specs.Said.{said, is_depth, outline_said, outline_into}
-use Rattle.outline_text.specs.contracts.Outlined.{the_type}
 use Rattle.outline_sizes.proofs.Sizes.{six_for_each}
 use Rattle.outline.specs.Printed.{depth_of, too_long_line, refused_six, printed}
 
@@ -66,7 +64,7 @@ module _ (s : List ℕ) (depth : ℕ) (o : List ℕ) (h : length s ≤ 65536) (m
   said-refused e = rw (le-leb (length s) (length s) (omega arith), e)
 
   -- what the call leaves where it is done
-  pub printed-done : (more : Bool) → more ≡ false → (n : ℕ) → said (Is n) ≡ outline_said s (length s) depth (length o) → (o₁ : List ℕ) → o₁ ≡ outline_into s (length s) depth o
+  pub printed-done : (more : Bool) → more ≡ false → (n : ℕ) → said (Ok n) ≡ outline_said s (length s) depth (length o) → (o₁ : List ℕ) → o₁ ≡ outline_into s (length s) depth o
       → (take n o₁ ≡ printed s more depth) × IsPrefixLen n o₁
   unfolding outline_into printed
   printed-done more f n e o₁ x = go (is_depth depth) refl
@@ -78,18 +76,17 @@ module _ (s : List ℕ) (depth : ℕ) (o : List ℕ) (h : length s ≤ 65536) (m
           rw (f, b, z, x, said-done b) (stands p (fits b))
       go false b = absurd (let z : ◌≡◌ {A = ℕ} 0 6 = ap (λ (k : ℕ × List ℕ). k.0) (e ∙ said-refused b) in omega arith)
 
-  -- no other answer comes but that the depth is refused
-  pub printed-refused : (more : Bool) → more ≡ false → (a : Outlined) → said a ≡ outline_said s (length s) depth (length o) → OneOf (1 ∷ 2 ∷ 3 ∷ []) (tag_of the_type a)
+  -- no other refusal comes but that of the depth
+  pub printed-refused : (more : Bool) → more ≡ false → (e : OutlineError) → said (Err e) ≡ outline_said s (length s) depth (length o)
       → {o₂ o₁ : List ℕ} {r : ℕ} → Put refused_six o₂ 0 o₁ r → 393216 ≤ length o₂ → (take r o₁ ≡ printed s more depth) × IsPrefixLen r o₁
   unfolding printed
-  printed-refused more f a e k {o₂} {o₁} {r} p l = go (is_depth depth) refl
+  printed-refused more f x e {o₂} {o₁} {r} p l = go (is_depth depth) refl
     where
-      other : (a : Outlined) → OneOf (1 ∷ 2 ∷ 3 ∷ []) (tag_of the_type a) → (said a).0 ≡ 0 → ⊥
-      other (Is n) k z = ⊎_elim (λ y. omega arith) (⊎_elim (λ y. omega arith) (λ y. omega arith)) k
-      other Refused k z = omega arith
-      other Depth k z = omega arith
-      other (Longer n) k z = omega arith
+      other : (x : OutlineError) → (said (Err x)).0 ≡ 0 → ⊥
+      other End z = omega arith
+      other Depth z = omega arith
+      other (Longer n) z = omega arith
 
       go : (b : Bool) → is_depth depth ≡ b → (take r o₁ ≡ printed s more depth) × IsPrefixLen r o₁
-      go true b = absurd (other a k (ap (λ (k : ℕ × List ℕ). k.0) (e ∙ said-done b)))
+      go true b = absurd (other x (ap (λ (k : ℕ × List ℕ). k.0) (e ∙ said-done b)))
       go false b = rw (f, b) (stands p (omega arith))

@@ -6,8 +6,7 @@ ghost use Rattle.std.specs.Prelude.{◌≡◌, ◌≤◌, length, take};
 ghost use Rattle.io.specs.Counts.{IsPrefixLen};
 ghost use Rattle.outline.specs.Printed.{depth_of, printed};
 
-use outline_text::{Outlined, outline_into};
-use parts::saturating_sub;
+use outline_text::outline_into;
 use std::io::Print;
 use std::rt::Env;
 use streams::{read_full, word};
@@ -27,8 +26,7 @@ fn depth_of(word: &[u8]) -> usize
     if word.len() != 1 {
         return 0;
     }
-    let digit = word[0];
-    saturating_sub(digit as usize, 48)
+    usize::from(word[0].saturating_sub(b'0'))
 }
 
 // Puts the whole of what the program prints at the start of out, and answers how long it is.
@@ -41,11 +39,10 @@ fn put_whole(s: &[u8], more: bool, depth: usize, out: &mut [u8]) -> usize
     if more {
         return put_all(out, 0, b"too long\n");
     }
-    let a = outline_into(s, s.len(), depth, out);
-    let Outlined::Is(n) = a else {
-        return put_all(out, 0, b"refused 6\n");
-    };
-    n
+    match outline_into(s, s.len(), depth, out) {
+        Ok(n) => n,
+        Err(_) => put_all(out, 0, b"refused 6\n"),
+    }
 }
 
 // Writes the outline of the bytes that were read, or `too long` where there are more.

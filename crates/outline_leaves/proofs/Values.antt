@@ -7,6 +7,7 @@ use mathlib.Core.Logic.{by_cases}
 use native.Mathlib.Omega.{arith}
 use native.Mathlib.Decide.{dec_lt}
 use lib.ListN.{length, get_or, drop, length-take, length-drop, get_or-eq_default}
+use Rattle.std.specs.Prelude.{Option, Some, None}
 use Rattle.parts.specs.Answer.{Answer, is}
 use Rattle.parts.proofs.Parts.{part_byte}
 use Rattle.steps.specs.Told.{Told, found, nothing, refused}
@@ -16,14 +17,12 @@ use Rattle.items.specs.Items.{item_step}
 use Rattle.items.proofs.Laws.{item-fits}
 use Rattle.items.proofs.Lists.{item_moves}
 use Rattle.spans.proofs.Items.{item_alike}
-use Rattle.outline_text.specs.declared.Opened.{Opened}
-use Rattle.outline_text.specs.declared.Opened.TheVariants.{Leaf, Set}
 use Rattle.outline_text.specs.Tree.{Outline, rest, shown}
 use Rattle.outline_text.specs.Opening.{set_of, is_run}
 use Rattle.outline_text.specs.Outline.{outline_from, in_set, run_opens, set_opens, run_outline, set_outline}
 use Rattle.outline_text.proofs.Going.{tree_nothing, tree_refused, tree_found}
 use Rattle.outline_leaves.specs.Leaves.{is_leaf}
-use Rattle.outline_leaves.proofs.Leaf.{leaf_in, leaf_low, leaf_high, leaf-in, leaf-none}
+use Rattle.outline_leaves.proofs.None.{leaf_in, leaf_low, leaf_high, leaf-in, leaf-none}
 
 -- two lists of one length that agree outside the leaves of an outline
 pub record But (o : Outline) (s t : List ℕ) : Type 0 where
@@ -119,9 +118,9 @@ module _ (s t : List ℕ) (same : length t ≡ length s) (i : Item) where
   run_inside zero sets v = refl
   run_inside (suc left) sets v = go (set_of i.key) refl
     where
-      go : (o : Opened) → set_of i.key ≡ o → run_opens (suc left) t i ≡ run_opens (suc left) s i
-      go Leaf x = rw x
-      go (Set c) x = rw x (ap is (sets left refl c (value_of s i) (value_of t i) (value_but s t same i (set_outline left c (value_of s i)) (λ q l z d. v q l z (rw x d)))))
+      go : (o : Option Coding) → set_of i.key ≡ o → run_opens (suc left) t i ≡ run_opens (suc left) s i
+      go None x = rw x
+      go (Some c) x = rw x (ap is (sets left refl c (value_of s i) (value_of t i) (value_but s t same i (set_outline left c (value_of s i)) (λ q l z d. v q l z (rw x d)))))
 
   set-inside : (left : ℕ) (c : Coding) → ((m : ℕ) → suc m ≡ left → Runs m) → ValueBut i (set_opens left c s i) s t → set_opens left c t i ≡ set_opens left c s i
   unfolding set_opens leaf_in

@@ -1,4 +1,5 @@
 -- How long the text of a run's and a set's outline is: each line comes of bytes of its own. Assumes nothing.
+use Rattle.std.specs.Prelude.{Err, Ok, Result}
 use Prim.Native.Nat.{ℕ, zero, suc, ◌+◌, ◌-◌, ◌*◌, ◌≤◌, ◌<◌}
 use mathlib.Core.Path.{◌≡◌, refl}
 use mathlib.Core.List.{List}
@@ -8,11 +9,13 @@ use native.Mathlib.Omega.{arith}
 use native.Mathlib.Decide.{dec_lt}
 use lib.ListN.{length, drop, get_or, length-append, length-take, length-drop}
 use lib.Dec.{leb, eqb}
+use Rattle.std.specs.Prelude.{Option, Some, None}
 use Rattle.parts.specs.Answer.{Answer, is, none}
 use Rattle.steps.specs.Told.{Told, found, nothing, refused}
 use Rattle.steps.proofs.Laws.{Moves}
-use Rattle.lengths.specs.declared.Length.{Length}
-use Rattle.lengths.specs.declared.Length.TheVariants.{Is, Cut, None}
+use Rattle.lengths.specs.declared.Field.{Field}
+use Rattle.lengths.specs.declared.NoLength.{NoLength}
+use Rattle.lengths.specs.declared.NoLength.TheVariants.{Cut, Invalid}
 use Rattle.klv.specs.declared.Klv.{Klv}
 use Rattle.klv.specs.Item.{Item, item, klv, past, value_of}
 use Rattle.text.specs.Write.{decimal_of}
@@ -22,8 +25,6 @@ use Rattle.items.proofs.Laws.{item-fits}
 use Rattle.items.proofs.Lists.{item_moves}
 use Rattle.labels.specs.Label.{codes_items}
 use Rattle.outline_lines.specs.Lines.{rest_of}
-use Rattle.outline_text.specs.declared.Opened.{Opened}
-use Rattle.outline_text.specs.declared.Opened.TheVariants.{Leaf, Set}
 use Rattle.outline_text.specs.Tree.{Outline, shown}
 use Rattle.outline_text.specs.Opening.{coding, coding_by, set_of, is_run}
 use Rattle.outline_text.specs.Outline.{outline_from, items_outline, in_set, run_opens, set_opens, run_outline, set_outline}
@@ -93,11 +94,11 @@ item_gives key ber s p t x = rw x at (go (leb (p + key) (length s)) (length_in b
     at_value true k q = omega (arith, length-take key (drop k.at s))
     at_value false k q = refl
 
-    go : (b : Bool) (l : Length) → Gives key p (cond b (by_length key s p l) (nothing p))
+    go : (b : Bool) (l : Result Field NoLength) → Gives key p (cond b (by_length key s p l) (nothing p))
     go false l = refl
-    go true Cut = refl
-    go true None = refl
-    go true (Is f) = at_value (leb f.value (length s - (p + key + f.size))) (klv key p f) (past (klv key p f))
+    go true (Err Cut) = refl
+    go true (Err Invalid) = refl
+    go true (Ok f) = at_value (leb f.value (length s - (p + key + f.size))) (klv key p f) (past (klv key p f))
 
 -- The codings of sets
 
@@ -105,11 +106,11 @@ pub data Usual : Coding → Type 0 where
   two : (ber : Bool) → Usual (coding 2 ber)
   one : Usual (coding 1 false)
 
-usual : (label : List ℕ) (c : Coding) → set_of label ≡ Set c → Usual c
+usual : (label : List ℕ) (c : Coding) → set_of label ≡ Some c → Usual c
 unfolding set_of coding_by
 usual label c e = go (codes_items label) (eqb (get_or label 5 0) 0x53) (eqb (get_or label 5 0) 0x13) e
   where
-    go : (a b d : Bool) → cond a (Set (cond b (coding 2 false) (cond d (coding 2 true) (coding 1 false)))) Leaf ≡ Set c → Usual c
+    go : (a b d : Bool) → cond a (Some (cond b (coding 2 false) (cond d (coding 2 true) (coding 1 false)))) None ≡ Some c → Usual c
     go true true d e = let z : coding 2 false ≡ c = cc in rw z at (two false)
     go true false true e = let z : coding 2 true ≡ c = cc in rw z at (two true)
     go true false false e = let z : coding 1 false ≡ c = cc in rw z at one
@@ -167,9 +168,9 @@ module _ (limit digits more : ℕ) (w : ℕ → ℕ) (k : Pays limit digits more
     label_paid zero h sets = omega arith
     label_paid (suc left) h sets = go (set_of i.key) refl
       where
-        go : (o : Opened) → set_of i.key ≡ o → inside_length (level + 1) (run_opens (suc left) s i) ≤ w i.klv.len + more
-        go Leaf x = rw x (omega arith)
-        go (Set c) x =
+        go : (o : Option Coding) → set_of i.key ≡ o → inside_length (level + 1) (run_opens (suc left) s i) ≤ w i.klv.len + more
+        go None x = rw x (omega arith)
+        go (Some c) x =
             rw x (inside_paid s i (set_outline left c (value_of s i)) (level + 1)
             (sets left refl (level + 1) c (value_of s i) (usual i.key c x) (omega arith) value_small))
 

@@ -9,32 +9,31 @@ use native.Mathlib.Decide.{dec_lt}
 use borrow.Author.Tests.{eq-eqb, ne_eqb}
 use lib.ListN.{length, get_or, get_or-eq_default}
 use lib.Dec.{eqb}
+use Rattle.std.specs.Prelude.{Option, Some, None}
 use Rattle.parts.specs.Answer.{is, none}
 use Rattle.labels.specs.Label.{codes_items}
 use Rattle.labels.proofs.Agreeing.{codes_short}
 use Rattle.klv.specs.Item.{Item, value_of}
 use Rattle.items.specs.declared.Coding.{Coding}
-use Rattle.outline_text.specs.declared.Opened.{Opened}
-use Rattle.outline_text.specs.declared.Opened.TheVariants.{Leaf, Set}
 use Rattle.outline_text.specs.Opening.{coding, coding_by, set_of, is_run, set_in, runs_in}
 use Rattle.outline_text.specs.Outline.{in_set, run_opens, set_opens, run_outline, set_outline}
 
 -- with no level left nothing opens, and else what is set out for labels and tags
 
-pub set_flat : (left : ℕ) (label : List ℕ) → left ≡ 0 → Leaf ≡ set_in left label
+pub set_flat : (left : ℕ) (label : List ℕ) → left ≡ 0 → None ≡ set_in left label
 unfolding set_in
 set_flat zero label e = refl
 set_flat (suc left) label e = absurd (omega arith)
 
-set-left : (left : ℕ) (label : List ℕ) → (left ≡ 0 → ⊥) → (o : Opened) → set_of label ≡ o → o ≡ set_in left label
+set-left : (left : ℕ) (label : List ℕ) → (left ≡ 0 → ⊥) → (o : Option Coding) → set_of label ≡ o → o ≡ set_in left label
 unfolding set_in
 set-left zero label h o e = absurd (h refl)
 set-left (suc left) label h o e = sym e
 
 module _ (left : ℕ) (label : List ℕ) (h : left ≡ 0 → ⊥) where
-  pub set_other : codes_items label ≡ false → Leaf ≡ set_in left label
+  pub set_other : codes_items label ≡ false → None ≡ set_in left label
   unfolding set_of
-  set_other e = set-left left label h Leaf (rw e)
+  set_other e = set-left left label h None (rw e)
 
   module _ (e : codes_items label ≡ true) where
     -- a set's label has a byte 5
@@ -43,17 +42,17 @@ module _ (left : ℕ) (label : List ℕ) (h : left ≡ 0 → ⊥) where
         by_cases (dec_lt 5 (length label)) (λ m. m)
         (λ m. let z = codes_short label (omega arith) in absurd (let y : ◌≡◌ {A = ℕ} 0 1 = cc in omega arith))
 
-    pub set_53 : get_or label 5 0 ≡ 0x53 → Set (coding 2 false) ≡ set_in left label
+    pub set_53 : get_or label 5 0 ≡ 0x53 → Some (coding 2 false) ≡ set_in left label
     unfolding set_of coding_by
-    set_53 b = set-left left label h (Set (coding 2 false)) (rw (e, b))
+    set_53 b = set-left left label h (Some (coding 2 false)) (rw (e, b))
 
-    pub set_13 : get_or label 5 0 ≡ 0x13 → Set (coding 2 true) ≡ set_in left label
+    pub set_13 : get_or label 5 0 ≡ 0x13 → Some (coding 2 true) ≡ set_in left label
     unfolding set_of coding_by
-    set_13 b = set-left left label h (Set (coding 2 true)) (rw (e, b))
+    set_13 b = set-left left label h (Some (coding 2 true)) (rw (e, b))
 
-    pub set_43 : (get_or label 5 0 ≡ 0x53 → ⊥) → (get_or label 5 0 ≡ 0x13 → ⊥) → Set (coding 1 false) ≡ set_in left label
+    pub set_43 : (get_or label 5 0 ≡ 0x53 → ⊥) → (get_or label 5 0 ≡ 0x13 → ⊥) → Some (coding 1 false) ≡ set_in left label
     unfolding set_of coding_by
-    set_43 a b = set-left left label h (Set (coding 1 false)) (rw (e, ne_eqb _ _ a, ne_eqb _ _ b))
+    set_43 a b = set-left left label h (Some (coding 1 false)) (rw (e, ne_eqb _ _ a, ne_eqb _ _ b))
 
 pub run_flat : (left : ℕ) (c : Coding) (tag : List ℕ) → left ≡ 0 → false ≡ runs_in left c tag
 unfolding runs_in
@@ -80,7 +79,7 @@ module _ (left : ℕ) (c : Coding) (tag : List ℕ) (h : left ≡ 0 → ⊥) whe
 
 -- what opens has a level left
 
-pub set_levels : (left : ℕ) (label : List ℕ) (c : Coding) → set_in left label ≡ Set c → 0 < left
+pub set_levels : (left : ℕ) (label : List ℕ) (c : Coding) → set_in left label ≡ Some c → 0 < left
 unfolding set_in
 set_levels zero label c e = absurd (let z : ◌≡◌ {A = ℕ} 0 1 = cc in omega arith)
 set_levels (suc left) label c e = omega arith
@@ -93,12 +92,12 @@ run_levels (suc left) c tag e = omega arith
 -- and is the outline of the item's value
 
 module _ (s : List ℕ) (i : Item) where
-  pub run-leaf : (left : ℕ) → set_in left i.key ≡ Leaf → run_opens left s i ≡ none
+  pub run-leaf : (left : ℕ) → set_in left i.key ≡ None → run_opens left s i ≡ none
   unfolding run_opens in_set set_in
   run-leaf zero e = refl
   run-leaf (suc left) e = rw e
 
-  pub run-set : (left : ℕ) (c : Coding) → set_in left i.key ≡ Set c → run_opens left s i ≡ is (set_outline (left - 1) c (value_of s i))
+  pub run-set : (left : ℕ) (c : Coding) → set_in left i.key ≡ Some c → run_opens left s i ≡ is (set_outline (left - 1) c (value_of s i))
   unfolding run_opens in_set set_in
   run-set zero c e = absurd (let z : ◌≡◌ {A = ℕ} 0 1 = cc in omega arith)
   run-set (suc left) c e = let z : suc left - 1 ≡ left = omega arith in rw (e, z)

@@ -1,5 +1,5 @@
 -- The outline of a file: docs/RULES.md, "L4. An outline".
-use Rattle.std.specs.Prelude.{ℕ, zero, suc, ◌-◌, List, Bool, true, cond, length}
+use Rattle.std.specs.Prelude.{ℕ, zero, suc, ◌-◌, List, Bool, true, cond, length, Option, Some, None}
 use Rattle.parts.specs.Answer.{Answer, is, none}
 use Rattle.steps.specs.Told.{Told}
 use Rattle.steps.specs.Listed.{list_from, end_from}
@@ -7,8 +7,6 @@ use Rattle.klv.specs.Item.{Item, value_of}
 use Rattle.items.specs.declared.Coding.{Coding}
 use Rattle.items.specs.Items.{item_step}
 use Rattle.records.specs.Records.{finished_from}
-use Rattle.outline_text.specs.declared.Opened.{Opened}
-use Rattle.outline_text.specs.declared.Opened.TheVariants.{Leaf, Set}
 use Rattle.outline_text.specs.Tree.{Outline, outlined}
 use Rattle.outline_text.specs.Opening.{set_of, is_run}
 
@@ -21,9 +19,9 @@ abbrev pub items_outline : ℕ → Bool → List ℕ → (Item → Answer Outlin
 items_outline key ber s opens = outline_from opens (λ q. length s - q) (item_step key ber s) (length s) 0
 
 -- a set opens as its coding says
-unfoldable pub in_set : (Coding → Outline) → Opened → Answer Outline
-in_set inside Leaf = none
-in_set inside (Set c) = is (inside c)
+unfoldable pub in_set : (Coding → Outline) → Option Coding → Answer Outline
+in_set inside None = none
+in_set inside (Some c) = is (inside c)
 
 -- what an item of a run opens, with so many levels left below it, and what an item of a set does: a run opens sets, and a set
 -- opens runs again

@@ -1,17 +1,17 @@
 -- What the outline call says, and what it leaves in the room: docs/RULES.md, "L4. An outline".
-use Rattle.std.specs.Prelude.{ℕ, List, [], ◌∷◌, Bool, cond, ◌&&◌, length, leb, eqb}
+use Rattle.std.specs.Prelude.{ℕ, List, [], ◌∷◌, Bool, cond, ◌&&◌, length, leb, eqb, Result, Ok, Err}
 use Rattle.std.proofs.lemmas.List.Edits.{sets}
 use Rattle.outline_lines.specs.Lines.{cap}
-use Rattle.outline_text.specs.declared.Outlined.{Outlined}
-use Rattle.outline_text.specs.declared.Outlined.TheVariants.{Is, Refused, Depth, Longer}
+use Rattle.outline_text.specs.declared.OutlineError.{OutlineError}
+use Rattle.outline_text.specs.declared.OutlineError.TheVariants.{End, Depth, Longer}
 use Rattle.outline_text.specs.Text.{outline_text}
 
 -- of an answer: its number, and the length that comes with it, if one does
-abbrev pub said : Outlined → ℕ × List ℕ
-said (Is n) = (0, n ∷ [])
-said Refused = (1, [])
-said Depth = (6, [])
-said (Longer n) = (3, n ∷ [])
+abbrev pub said : Result ℕ OutlineError → ℕ × List ℕ
+said (Ok n) = (0, n ∷ [])
+said (Err End) = (1, [])
+said (Err Depth) = (6, [])
+said (Err (Longer n)) = (3, n ∷ [])
 
 -- 0 with the text's length, or 3 with the length needed where the room is shorter
 abbrev pub by_room : ℕ → ℕ → ℕ × List ℕ

@@ -11,36 +11,26 @@ ghost use Rattle.outline_text.specs.Said.{said, outline_said, outline_into};
 
 use items::{Coding, Local, LocalNext, Run, RunNext};
 use outline_lines::{add_item, add_rest};
-use parts::saturating_sub;
 use walk::{Cursor, Step};
 
-// What the value under a label is.
-#[derive(Clone, Copy)]
-pub enum Opened {
-    // A value that is not looked into.
-    Leaf,
-    // A set with items of this coding.
-    Set(Coding),
-}
-
-// What the value under a label is, with some levels left below it.
-fn set_in(left: usize, label: &[u8]) -> Opened
+// The coding of the items in the value under a label, with some levels left below it: none of a value that is not looked into.
+fn set_in(left: usize, label: &[u8]) -> Option<Coding>
     ensures { result ≡ set_in left label.now }
 {
     if left == 0 {
-        return Opened::Leaf;
+        return None;
     }
     if !labels::codes_items(label) {
-        return Opened::Leaf;
+        return None;
     }
     let how = label[5];
     if how == 0x53 {
-        return Opened::Set(Coding::TWO_TWO);
+        return Some(Coding::TWO_TWO);
     }
     if how == 0x13 {
-        return Opened::Set(Coding::TWO_BER);
+        return Some(Coding::TWO_BER);
     }
-    Opened::Set(Coding::ONE_TWO)
+    Some(Coding::ONE_TWO)
 }
 
 // Whether the value under a tag is a run, with some levels left below it.
@@ -70,13 +60,12 @@ fn run_outline(s: &[u8], left: usize, level: usize, out: &mut [u8], at: usize) -
     loop {
         let f = Run { at: p }.step(s);
         let RunNext::Item(k, next) = f else {
-            return add_rest(out, place, level, saturating_sub(s.len(), p));
+            return add_rest(out, place, level, s.len().saturating_sub(p));
         };
         p = next.at;
         let key = k.label(s);
         place = add_item(out, place, level, key, k.len);
-        let o = set_in(left, key);
-        let Opened::Set(c) = o else {
+        let Some(c) = set_in(left, key) else {
             continue;
         };
         place = set_outline(c, k.bytes(s), left - 1, level + 1, out, place);
@@ -101,7 +90,7 @@ fn set_outline(
     loop {
         let f = Local { at: p }.step(s, coding);
         let LocalNext::Item(k, next) = f else {
-            return add_rest(out, place, level, saturating_sub(s.len(), p));
+            return add_rest(out, place, level, s.len().saturating_sub(p));
         };
         p = next.at;
         let key = parts::part(s, k.at, coding.tag);
@@ -128,47 +117,50 @@ fn file_outline(s: &[u8], end: usize, left: usize, out: &mut [u8], at: usize) ->
         p = next.at;
         let key = k.label(s);
         place = add_item(out, place, 1, key, k.len);
-        let o = set_in(left, key);
-        let Opened::Set(c) = o else {
+        let Some(c) = set_in(left, key) else {
             continue;
         };
         place = set_outline(c, k.bytes(s), left - 1, 2, out, place);
     }
 }
 
-// What the outline call answers.
-#[derive(Clone, Copy)]
-pub enum Outlined {
-    // 0: the outline stands in the room, so many bytes of it.
-    Is(usize),
+// Why the outline call puts nothing.
+#[derive(Clone, Copy, Debug, PartialEq, Eq)]
+pub enum OutlineError {
     // 1: the end is larger than the buffer.
-    Refused,
+    End,
     // 6: the depth is not 1 to 8.
     Depth,
-    // 3: so many bytes are needed, and none was written.
+    // 3: the room is shorter than the outline, which needs so many bytes.
     Longer(usize),
 }
 
-// Puts the outline of a file with an end, to a depth of 1 to 8, at the start of lent room. It is counted in no room first.
-pub fn outline_into(s: &[u8], end: usize, depth: usize, out: &mut [u8]) -> Outlined
+// Puts the outline of a file with an end, to a depth of 1 to 8, at the start of lent room, and answers how long it is. It is
+// counted in no room first.
+pub fn outline_into(
+    s: &[u8],
+    end: usize,
+    depth: usize,
+    out: &mut [u8],
+) -> Result<usize, OutlineError>
     ensures result_value { said result ≡ outline_said s.now end depth (length out.old) }
     ensures out_after { out.new ≡ outline_into s.now end depth out.old }
 {
     if s.len() < end {
-        return Outlined::Refused;
+        return Err(OutlineError::End);
     }
     if depth < 1 {
-        return Outlined::Depth;
+        return Err(OutlineError::Depth);
     }
     if 8 < depth {
-        return Outlined::Depth;
+        return Err(OutlineError::Depth);
     }
     let left = depth - 1;
     let mut none = [0u8; 0];
     let n = file_outline(s, end, left, &mut none, 0);
     if out.len() < n {
-        return Outlined::Longer(n);
+        return Err(OutlineError::Longer(n));
     }
     file_outline(s, end, left, out, 0);
-    Outlined::Is(n)
+    Ok(n)
 }

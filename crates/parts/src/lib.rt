@@ -23,8 +23,8 @@ pub fn saturating_sub(a: usize, b: usize) -> usize
 pub fn part(s: &[u8], at: usize, len: usize) -> &[u8]
     ensures { result.now ≡ take len (drop at s.now) }
 {
-    let start = lesser(at, s.len());
-    let end = start + lesser(len, s.len() - start);
+    let start = at.min(s.len());
+    let end = start + len.min(s.len() - start);
     &s[start..end]
 }
 
@@ -40,10 +40,8 @@ pub fn number(s: &[u8]) -> u64
     ensures { result ≡ number_of s.now % 2 ^ 64 }
 {
     let mut value: u64 = 0;
-    let mut i = 0;
-    while i < s.len() {
-        value = value % 0x100_0000_0000_0000 * 256 + u64_of(s[i]);
-        i += 1;
+    for b in s {
+        value = value % 0x100_0000_0000_0000 * 256 + u64::from(*b);
     }
     value
 }

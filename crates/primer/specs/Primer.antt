@@ -1,14 +1,12 @@
 -- The primer: docs/RULES.md, "Tables inside values".
-use Rattle.std.specs.Prelude.{ℕ, zero, suc, ◌+◌, ◌-◌, ◌*◌, ◌/◌, List, cond, ◌&&◌, length, leb, eqb}
+use Rattle.std.specs.Prelude.{ℕ, zero, suc, ◌+◌, ◌-◌, ◌*◌, ◌/◌, List, cond, ◌&&◌, length, leb, eqb, Option, Some, None}
 use Rattle.parts.specs.Number.{number_at}
 use Rattle.parts.specs.Answer.{Answer, is, none}
-use Rattle.primer.specs.declared.Entry.{Entry}
-use Rattle.primer.specs.declared.Entry.TheVariants.{Label, Nothing}
 
 -- an answer says where the label is, or that there is none
-abbrev pub told : Entry → Answer ℕ
-told (Label at) = is at
-told Nothing = none
+abbrev pub told : Option ℕ → Answer ℕ
+told (Some at) = is at
+told None = none
 
 -- an entry is a tag of 2 bytes and a label of 16: where it has the tag it wins over those before it
 unfoldable pub later : List ℕ → ℕ → ℕ → Answer ℕ → Answer ℕ

@@ -9,14 +9,6 @@ ghost use Rattle.primer.specs.Primer.{told, entries_in, entry_of};
 
 use parts::number;
 
-// What the primer has for a tag.
-#[derive(Clone, Copy)]
-pub enum Entry {
-    // The place of its label's 16 bytes.
-    Label(usize),
-    Nothing,
-}
-
 // How many whole entries a primer's value has.
 pub fn entries(s: &[u8]) -> usize
     ensures { result ≡ entries_in s.now }
@@ -35,23 +27,20 @@ fn has(s: &[u8], at: usize, tag: u64) -> bool
     requires { at + 18 ≤ length s.now }
     ensures { result ≡ eqb (number_at s.now at 2) tag }
 {
-    let end = at + 2;
-    number(&s[at..end]) == tag
+    number(&s[at..at + 2]) == tag
 }
 
-// The label of a local tag, in the primer's value: of equal tags the last, which is the first that is met from the end.
-pub fn find(s: &[u8], tag: u64) -> Entry
+// The place of the label's 16 bytes for a local tag, in the primer's value: of equal tags the last, which is the first that is met
+// from the end.
+pub fn find(s: &[u8], tag: u64) -> Option<usize>
     ensures { told result ≡ entry_of s.now tag }
 {
     let n = entries(s);
-    let mut i = n;
-    while 0 < i {
-        let at = 8 + 18 * (i - 1);
+    for i in (0..n).rev() {
+        let at = 8 + 18 * i;
         if has(s, at, tag) {
-            let label = at + 2;
-            return Entry::Label(label);
+            return Some(at + 2);
         }
-        i -= 1;
     }
-    Entry::Nothing
+    None
 }

@@ -3,14 +3,14 @@
 // clearing first, and what was in it does no harm.
 #![tactic(auto)]
 
-ghost use Rattle.std.specs.Prelude.{◌≡◌, ◌<◌, length};
+ghost use Rattle.std.specs.Prelude.{◌≡◌, ◌<◌};
 ghost use Rattle.parts.specs.Number.{number_at};
 ghost use Rattle.primer.specs.Primer.{told, entries_in};
 ghost use Rattle.primer.specs.LastWins.{place};
 ghost use Rattle.primer_table.specs.Table.{table_of, held_for};
 
 use parts::number;
-use primer::{Entry, entries};
+use primer::entries;
 
 // The tag of entry i.
 fn tag_of(s: &[u8], i: usize) -> u64
@@ -19,46 +19,33 @@ fn tag_of(s: &[u8], i: usize) -> u64
     ensures upper_bound { result < 65536 }
 {
     let at = 8 + 18 * i;
-    let end = at + 2;
-    number(&s[at..end])
-}
-
-// The table of `fill`, where there is a place for each tag.
-fn fill_in(s: &[u8], table: &mut [u64])
-    requires { length table.old ≡ 65536 }
-    ensures { table.new ≡ table_of s.now table.old }
-{
-    let n = entries(s);
-    let mut i = 0;
-    while i < n {
-        let tag = tag_of(s, i) as usize;
-        table[tag] = i as u64;
-        i += 1;
-    }
+    number(&s[at..at + 2])
 }
 
 // Puts the number of each entry of a primer's value at the entry's tag, the first entry first. What no entry has stays.
 pub fn fill(s: &[u8], table: &mut [u64; 65536])
     ensures { table.new ≡ table_of s.now table.old }
 {
-    fill_in(s, table)
+    let n = entries(s);
+    for i in 0..n {
+        table[tag_of(s, i) as usize] = i as u64;
+    }
 }
 
-// The label of a local tag in a primer's value: that of the entry whose number the table has, if the entry has the tag.
-pub fn find(s: &[u8], table: &[u64], tag: u64) -> Entry
+// The place of a local tag's label in a primer's value: that of the entry whose number the table has, if the entry has the tag.
+pub fn find(s: &[u8], table: &[u64], tag: u64) -> Option<usize>
     ensures { told result ≡ held_for s.now table.now tag }
 {
     let place = tag as usize;
     if table.len() <= place {
-        return Entry::Nothing;
+        return None;
     }
     let i = table[place] as usize;
     if entries(s) <= i {
-        return Entry::Nothing;
+        return None;
     }
     if tag_of(s, i) != tag {
-        return Entry::Nothing;
+        return None;
     }
-    let label = 8 + 18 * i + 2;
-    Entry::Label(label)
+    Some(8 + 18 * i + 2)
 }

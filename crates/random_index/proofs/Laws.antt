@@ -1,4 +1,5 @@
 -- Laws of `specs/Index.antt`: its cases, each from facts about numbers. Assumes nothing.
+use Rattle.std.specs.Prelude.{Err, Ok}
 use Prim.Native.Nat.{ℕ, zero, suc, ◌+◌, ◌-◌, ◌/◌, ◌%◌, ◌≤◌, ◌<◌}
 use mathlib.Core.Path.{◌≡◌, refl, sym, ◌∙◌}
 use mathlib.Core.List.{List}
@@ -10,21 +11,21 @@ use Rattle.steps.specs.Told.{found, nothing}
 use Rattle.parts.specs.Number.{number_at}
 use Rattle.labels.specs.Label.{same_label, label_at, random_index}
 use Rattle.lengths.specs.declared.Field.{Field}
-use Rattle.lengths.specs.declared.Length.TheVariants.{Is, Cut, None}
+use Rattle.lengths.specs.declared.NoLength.TheVariants.{Cut, Invalid}
 use Rattle.lengths.specs.Length.{length_at}
 use Rattle.klv.specs.Item.{klv, past}
 use Rattle.random_index.specs.Index.{pairs, refused, by_length, pairs_behind, pack_size, index_of, is_partition, pair_at, pair_step}
 
 module _ (s : List ℕ) (p : ℕ) where
-  pub no_length : length_at s (p + 16) ≡ None → pairs_behind s p ≡ refused 9
+  pub no_length : length_at s (p + 16) ≡ Err Invalid → pairs_behind s p ≡ refused 9
   unfolding pairs_behind by_length
   no_length l = rw l
 
-  pub cut-length : length_at s (p + 16) ≡ Cut → pairs_behind s p ≡ refused 9
+  pub cut-length : length_at s (p + 16) ≡ Err Cut → pairs_behind s p ≡ refused 9
   unfolding pairs_behind by_length
   cut-length l = rw l
 
-  module _ (f : Field) (l : length_at s (p + 16) ≡ Is f) where
+  module _ (f : Field) (l : length_at s (p + 16) ≡ Ok f) where
     pub not-pairs : (f.value % 12 ≡ 4 → ⊥) → pairs_behind s p ≡ refused 9
     unfolding pairs_behind by_length
     not-pairs n = simp (l, ne_eqb _ _ n)

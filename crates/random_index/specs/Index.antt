@@ -1,11 +1,12 @@
 -- The random index pack: docs/RULES.md, "L6. The random index pack".
-use Rattle.std.specs.Prelude.{ℕ, zero, suc, ◌+◌, ◌-◌, ◌/◌, ◌%◌, List, Bool, cond, not, ◌&&◌, ◌||◌, length, ltb, leb, eqb}
+use Rattle.std.specs.Prelude.{ℕ, zero, suc, ◌+◌, ◌-◌, ◌/◌, ◌%◌, List, Bool, cond, not, ◌&&◌, ◌||◌, length, ltb, leb, eqb, Err, Ok, Result}
 use Rattle.steps.specs.Told as told
 use Rattle.steps.specs.Told.{Told}
 use Rattle.parts.specs.Number.{number_at}
 use Rattle.labels.specs.Label.{same_label, label_at, partition_kind, random_index}
-use Rattle.lengths.specs.declared.Length.{Length}
-use Rattle.lengths.specs.declared.Length.TheVariants.{Is, Cut, None}
+use Rattle.lengths.specs.declared.Field.{Field}
+use Rattle.lengths.specs.declared.NoLength.{NoLength}
+use Rattle.lengths.specs.declared.NoLength.TheVariants.{Cut, Invalid}
 use Rattle.lengths.specs.Length.{length_at}
 use Rattle.klv.specs.Item.{klv, past}
 use Rattle.random_index.specs.declared.Pairs.{Pairs}
@@ -21,13 +22,13 @@ unfoldable pub pack_size : List ℕ → ℕ
 pack_size s = number_at s (length s - 4) 4
 
 -- the pairs of the pack at p; 9: length cut, none, not a multiple of 12 plus 4, or not ending at the end
-unfoldable pub by_length : List ℕ → ℕ → Length → Said
-by_length s p (Is f) =
+unfoldable pub by_length : List ℕ → ℕ → Result Field NoLength → Said
+by_length s p (Ok f) =
     cond (eqb (f.value % 12) 4 && eqb (past (klv 16 p f)) (length s))
     (pairs (record { at = (klv 16 p f).value; left = f.value / 12 }))
     (refused 9)
-by_length s p Cut = refused 9
-by_length s p None = refused 9
+by_length s p (Err Cut) = refused 9
+by_length s p (Err Invalid) = refused 9
 
 unfoldable pub pairs_behind : List ℕ → ℕ → Said
 pairs_behind s p = by_length s p (length_at s (p + 16))

@@ -1,4 +1,5 @@
 -- Files with a random index pack, and its pairs. Assumes nothing.
+use Rattle.std.specs.Prelude.{Err, Ok, Result}
 use Prim.Native.Nat.{ℕ, suc, ◌+◌, ◌-◌, ◌*◌, ◌/◌, ◌%◌, ◌≤◌, ◌<◌}
 use mathlib.Core.Path.{◌≡◌, refl, sym, ap, ◌∙◌}
 use mathlib.Core.List.{List}
@@ -9,8 +10,9 @@ use native.Mathlib.Decide.{dec_lt, ℕ_discrete}
 use lib.ListN.{length}
 use Rattle.steps.specs.Told.{found}
 use Rattle.labels.specs.Label.{same_label, label_at, random_index}
-use Rattle.lengths.specs.declared.Length.{Length}
-use Rattle.lengths.specs.declared.Length.TheVariants.{Is, Cut, None}
+use Rattle.lengths.specs.declared.Field.{Field}
+use Rattle.lengths.specs.declared.NoLength.{NoLength}
+use Rattle.lengths.specs.declared.NoLength.TheVariants.{Cut, Invalid}
 use Rattle.lengths.specs.Length.{length_at}
 use Rattle.lengths.proofs.Laws.{taken}
 use Rattle.klv.specs.Item.{klv, past}
@@ -25,8 +27,8 @@ module _ (s : List ℕ) (c : Pairs) where
   unfolding pack_size
   behind p k z x = go (length_at s (p + 16)) refl
     where
-      go : (l : Length) → length_at s (p + 16) ≡ l → PackAt s p c
-      go (Is f) l =
+      go : (l : Result Field NoLength) → length_at s (p + 16) ≡ l → PackAt s p c
+      go (Ok f) l =
           by_cases (ℕ_discrete (f.value % 12) 4)
           (λ m. by_cases (ℕ_discrete (past (klv 16 p f)) (length s))
           (λ n. let y = to_end s p f l m n in
@@ -36,8 +38,8 @@ module _ (s : List ℕ) (c : Pairs) where
           record { key = k; field = f; long = l; start = a; count = omega arith; ends = omega arith; size = z })
           (λ n. let y = not_to_end s p f l m n in absurd (let z : ◌≡◌ {A = ℕ} 0 1 = cc in omega arith)))
           (λ m. let y = not-pairs s p f l m in absurd (let z : ◌≡◌ {A = ℕ} 0 1 = cc in omega arith))
-      go Cut l = let y = cut-length s p l in absurd (let z : ◌≡◌ {A = ℕ} 0 1 = cc in omega arith)
-      go None l = let y = no_length s p l in absurd (let z : ◌≡◌ {A = ℕ} 0 1 = cc in omega arith)
+      go (Err Cut) l = let y = cut-length s p l in absurd (let z : ◌≡◌ {A = ℕ} 0 1 = cc in omega arith)
+      go (Err Invalid) l = let y = no_length s p l in absurd (let z : ◌≡◌ {A = ℕ} 0 1 = cc in omega arith)
 
   only : index_of s ≡ pairs c → (p : ℕ) × PackAt s p c
   only x =

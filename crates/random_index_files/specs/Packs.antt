@@ -1,10 +1,9 @@
 -- Which files have a random index pack, and which pairs are its: docs/RULES.md, "L6. The random index pack".
-use Rattle.std.specs.Prelude.{ℕ, suc, ◌+◌, ◌-◌, ◌*◌, ◌<◌, ◌≡◌, List, true, ◌↔◌, length}
+use Rattle.std.specs.Prelude.{ℕ, suc, ◌+◌, ◌-◌, ◌*◌, ◌<◌, ◌≡◌, List, true, ◌↔◌, length, Ok}
 use Rattle.steps.specs.Told.{found, nothing}
 use Rattle.parts.specs.Number.{number_at}
 use Rattle.labels.specs.Label.{same_label, label_at, random_index}
 use Rattle.lengths.specs.declared.Field.{Field}
-use Rattle.lengths.specs.declared.Length.TheVariants.{Is}
 use Rattle.lengths.specs.Length.{length_at}
 use Rattle.random_index.specs.declared.Pairs.{Pairs}
 use Rattle.random_index.specs.Index.{pairs, index_of, pair_at, pair_step}
@@ -14,7 +13,7 @@ use Rattle.random_index.specs.Index.{pairs, index_of, pair_at, pair_step}
 pub record PackAt (s : List ℕ) (p : ℕ) (c : Pairs) : Type 0 where
   pub key : same_label (label_at s p) random_index ≡ true
   pub field : Field
-  pub long : length_at s (p + 16) ≡ Is field
+  pub long : length_at s (p + 16) ≡ Ok field
   pub start : p + 16 + field.size ≡ c.at
   pub count : field.value ≡ c.left * 12 + 4
   pub ends : c.at + field.value ≡ length s

@@ -7,7 +7,6 @@ ghost use Rattle.labels.specs.Label.{key_at};
 ghost use Rattle.search.specs.Search.{search_from, next_key, key_begins, wait_from, Passes};
 
 use labels::KEY_START;
-use parts::{lesser, saturating_sub};
 
 // Whether the four bytes at a place are those that a key starts with.
 fn stands(s: &[u8], q: usize) -> bool
@@ -41,13 +40,10 @@ fn scan(s: &[u8], end: usize, from: usize) -> usize
     if end < 4 {
         return end;
     }
-    let last = end - 4;
-    let mut q = from;
-    while q <= last {
+    for q in from..end - 3 {
         if stands(s, q) {
             return q;
         }
-        q += 1;
     }
     end
 }
@@ -59,10 +55,8 @@ fn pair_among(s: &[u8], at: usize) -> bool
     ensures { result ≡ false → Passes s.now at (at + 64) }
 {
     let mut hit = false;
-    let mut k = 0;
-    while k < 64 {
+    for k in 0..64 {
         hit = hit | ((s[at + k + 1] == 0x0e) & (s[at + k + 3] == 0x34));
-        k += 1;
     }
     hit
 }
@@ -73,10 +67,8 @@ fn key_among(s: &[u8], at: usize) -> bool
     ensures { result ≡ false → Passes s.now at (at + 16) }
 {
     let mut hit = false;
-    let mut k = 0;
-    while k < 16 {
+    for k in 0..16 {
         hit = hit | stands(s, at + k);
-        k += 1;
     }
     hit
 }
@@ -89,14 +81,12 @@ fn pass(s: &[u8], at: usize) -> usize
     if !pair_among(s, at) {
         return at + 64;
     }
-    let mut k = 0;
-    while k <= 48 {
-        if key_among(s, at + k) {
-            return at + k;
+    for k in 0..4 {
+        if key_among(s, at + 16 * k) {
+            return at + 16 * k;
         }
-        k += 16;
     }
-    at + k
+    at + 64
 }
 
 // The first of 16 places where a key's start stands, else the place after them. The count is fixed, so that the compiler
@@ -105,14 +95,12 @@ fn near(s: &[u8], at: usize) -> usize
     requires { at + 19 ≤ length s.now }
     ensures { (result ≤ at + 16) × Passes s.now at result × (result < at + 16 → key_at s.now result ≡ true) }
 {
-    let mut k = 0;
-    while k < 16 {
+    for k in 0..16 {
         if stands(s, at + k) {
             return at + k;
         }
-        k += 1;
     }
-    at + k
+    at + 16
 }
 
 // The search from where a key's start is near.
@@ -148,10 +136,10 @@ fn seek(s: &[u8], end: usize, from: usize) -> usize
     }
     let mut q = from;
     while q < last + 64 {
-        let at = lesser(q, last);
+        let at = q.min(last);
         let r = pass(s, at);
         if r < at + 64 {
-            return soon(s, end, q + saturating_sub(r, q));
+            return soon(s, end, q + r.saturating_sub(q));
         }
         q = r;
     }
@@ -183,14 +171,15 @@ fn key_begins(a: &[u8], q: usize) -> bool
 fn begin_from(a: &[u8], from: usize) -> usize
     ensures { result ≡ wait_from a.now from }
 {
-    let mut q = from;
-    while q < a.len() {
+    if a.len() <= from {
+        return from;
+    }
+    for q in from..a.len() {
         if key_begins(a, q) {
             return q;
         }
-        q += 1;
     }
-    q
+    a.len()
 }
 
 // The same, looking at the last four bytes alone: from no earlier place do all bytes begin a key's start.

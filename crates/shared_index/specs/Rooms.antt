@@ -1,11 +1,9 @@
 -- A room that two files share: docs/RULES.md, "L11. Two uploads, one index room". The second file is `true`: its records stand from the last slot down.
-use Rattle.std.specs.Prelude.{ℕ, ◌+◌, ◌/◌, max, Bool, true, false, cond, not, ◌&&◌, ltb, leb, eqb}
+use Rattle.std.specs.Prelude.{ℕ, ◌+◌, ◌/◌, max, Bool, true, false, cond, not, ◌&&◌, ltb, leb, eqb, Result, Ok, Err}
 use Rattle.shared_index.specs.declared.File.{File}
 use Rattle.shared_index.specs.declared.Room.{Room}
-use Rattle.shared_index.specs.declared.SetUp.{SetUp}
-use Rattle.shared_index.specs.declared.SetUp.TheVariants as setUp
-use Rattle.shared_index.specs.declared.Changed.{Changed}
-use Rattle.shared_index.specs.declared.Changed.TheVariants.{Done, NoFile}
+use Rattle.shared_index.specs.declared.SharedError.{SharedError}
+use Rattle.shared_index.specs.declared.SharedError.TheVariants.{NoFile, Shares}
 
 -- one of the files
 abbrev pub file_of : Bool → Room → File
@@ -49,12 +47,12 @@ fresh whole a c =
       second = record { share = c; used = 0; opened = false };
     }
 
-unfoldable pub set_up_of : ℕ → ℕ → ℕ → SetUp
-set_up_of whole a c = cond (leb (a + c) whole) (setUp.Done (fresh whole a c)) setUp.Shares
+unfoldable pub set_up_of : ℕ → ℕ → ℕ → Result Room SharedError
+set_up_of whole a c = cond (leb (a + c) whole) (Ok (fresh whole a c)) (Err Shares)
 
 -- Opening and closing: 19 where there is no such file, or it is open, or not
-unfoldable pub opened_of : Room → ℕ → Changed
-opened_of r file = cond (leb file 1 && not (file_of (is_second file) r).opened) (Done (changed (is_second file) r true 0)) NoFile
+unfoldable pub opened_of : Room → ℕ → Result Room SharedError
+opened_of r file = cond (leb file 1 && not (file_of (is_second file) r).opened) (Ok (changed (is_second file) r true 0)) (Err NoFile)
 
-unfoldable pub closed_of : Room → ℕ → Changed
-closed_of r file = cond (is_open r file) (Done (changed (is_second file) r false 0)) NoFile
+unfoldable pub closed_of : Room → ℕ → Result Room SharedError
+closed_of r file = cond (is_open r file) (Ok (changed (is_second file) r false 0)) (Err NoFile)

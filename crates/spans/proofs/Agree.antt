@@ -1,4 +1,5 @@
 -- Two lists of one length that agree up to a place: what a part, a length and a key's start read. Assumes nothing.
+use Rattle.std.specs.Prelude.{Err, Ok, Result}
 use Prim.Native.Nat.{ℕ, ◌+◌, ◌-◌, ◌≤◌, ◌<◌}
 use mathlib.Core.Path.{◌≡◌, refl, sym, ◌∙◌}
 use mathlib.Core.List.{List}
@@ -13,8 +14,8 @@ use Rattle.parts.proofs.Parts.{part_byte}
 use Rattle.labels.specs.Label.{key_at}
 use Rattle.labels.proofs.Laws.{key-same, key-cut}
 use Rattle.lengths.specs.declared.Field.{Field}
-use Rattle.lengths.specs.declared.Length.{Length}
-use Rattle.lengths.specs.declared.Length.TheVariants.{Is, Cut, None}
+use Rattle.lengths.specs.declared.NoLength.{NoLength}
+use Rattle.lengths.specs.declared.NoLength.TheVariants.{Cut, Invalid}
 use Rattle.lengths.specs.Length.{field, length_at, held_at}
 use Rattle.lengths.proofs.Laws.{past, more, held, held_cut, Case, c_past, c_short, c_none, c_cut, c_long, case}
 use Rattle.lengths.proofs.Spans.{length-same, none-same}
@@ -24,10 +25,10 @@ abbrev pub Agree : List ℕ → List ℕ → ℕ → ℕ → Type 0
 Agree s t from to = (q : ℕ) → from ≤ q → q < to → get_or t q 0 ≡ get_or s q 0
 
 -- how many bytes tell a length: its own, or the first one
-abbrev pub reach : Length → ℕ
-reach (Is f) = f.size
-reach Cut = 1
-reach None = 1
+abbrev pub reach : Result Field NoLength → ℕ
+reach (Ok f) = f.size
+reach (Err Cut) = 1
+reach (Err Invalid) = 1
 
 module _ (s t : List ℕ) (same : length t ≡ length s) where
   pub part_agree : (at n : ℕ) → Agree s t at (at + n) → take n (drop at t) ≡ take n (drop at s)
@@ -55,7 +56,7 @@ module _ (s t : List ℕ) (same : length t ≡ length s) where
   pub length_agree : (at : ℕ) → Agree s t at (at + reach (length_at s at)) → length_at t at ≡ length_at s at
   length_agree at = go (length_at s at) refl (case s at)
     where
-      go : (l : Length) → length_at s at ≡ l → Case s at l → Agree s t at (at + reach l) → length_at t at ≡ l
+      go : (l : Result Field NoLength) → length_at s at ≡ l → Case s at l → Agree s t at (at + reach l) → length_at t at ≡ l
       go l x (c_past h) a = past t at (omega arith)
       go l x (c_short h b) a = length-same s t at _ x (span at 1 (omega arith) a)
       go l x (c_none h b) a = none-same s t at x (span at 1 (omega arith) a)

@@ -1,4 +1,5 @@
 -- What an item's step reads: its key and its length, and that is up to its value. Assumes nothing.
+use Rattle.std.specs.Prelude.{Err, Ok, Result}
 use Prim.Native.Nat.{ℕ, ◌+◌, ◌-◌, ◌≤◌, ◌<◌}
 use mathlib.Core.Path.{◌≡◌, refl, ap, ◌∙◌}
 use mathlib.Core.List.{List}
@@ -9,8 +10,8 @@ use native.Mathlib.Decide.{dec_lt}
 use lib.ListN.{length, get_or}
 use Rattle.steps.specs.Told.{found, nothing}
 use Rattle.lengths.specs.declared.Field.{Field}
-use Rattle.lengths.specs.declared.Length.{Length}
-use Rattle.lengths.specs.declared.Length.TheVariants.{Is, Cut, None}
+use Rattle.lengths.specs.declared.NoLength.{NoLength}
+use Rattle.lengths.specs.declared.NoLength.TheVariants.{Cut, Invalid}
 use Rattle.lengths.specs.Length.{two_field, held_at}
 use Rattle.lengths.proofs.Laws.{held, held_cut}
 use Rattle.klv.specs.declared.Klv.{Klv}
@@ -33,11 +34,11 @@ module _ (s t : List ℕ) (same : length t ≡ length s) where
   pub item-same : (key : ℕ) (k : Klv) → Agree s t k.at (k.at + key) → item key t k ≡ item key s k
   item-same key k a = let e = part_agree s t same k.at key a in λ i. record { klv = k; key = e i }
 
-  at_length : (key p : ℕ) → Agree s t p (p + key) → (l : Length) → by_length key t p l ≡ by_length key s p l
+  at_length : (key p : ℕ) → Agree s t p (p + key) → (l : Result Field NoLength) → by_length key t p l ≡ by_length key s p l
   unfolding by_length by_value
-  at_length key p a (Is f) = rw (same, item-same key (klv key p f) a)
-  at_length key p a Cut = refl
-  at_length key p a None = refl
+  at_length key p a (Ok f) = rw (same, item-same key (klv key p f) a)
+  at_length key p a (Err Cut) = refl
+  at_length key p a (Err Invalid) = refl
 
   -- two lists that agree on a key and its length step alike
   item_agree : (key : ℕ) (ber : Bool) (p : ℕ) → Agree s t p (p + key + reach_in ber s (p + key)) → item_step key ber t p ≡ item_step key ber s p
@@ -45,13 +46,13 @@ module _ (s t : List ℕ) (same : length t ≡ length s) where
   item_agree key ber p a =
       rw (same, in-agree ber (p + key) (λ q l h. a q (omega arith) h), at_length key p (λ q l h. a q l (omega arith)) (length_in ber s (p + key)))
 
-two_size : (s : List ℕ) (at : ℕ) (f : Field) → held_at two_field s at 2 ≡ Is f → 2 ≡ f.size
+two_size : (s : List ℕ) (at : ℕ) (f : Field) → held_at two_field s at 2 ≡ Ok f → 2 ≡ f.size
 two_size s at f e =
     by_cases (dec_lt (length s) (at + 2))
     (λ h. let w = held_cut two_field s at 2 h in absurd (let z : ◌≡◌ {A = ℕ} 0 1 = cc in omega arith))
     (λ h. let w = held two_field s at 2 (omega arith) in cc)
 
-reach_size : (ber : Bool) (s : List ℕ) (at : ℕ) (f : Field) → length_in ber s at ≡ Is f → reach_in ber s at ≡ f.size
+reach_size : (ber : Bool) (s : List ℕ) (at : ℕ) (f : Field) → length_in ber s at ≡ Ok f → reach_in ber s at ≡ f.size
 unfolding length_in
 reach_size true s at f l = rw l
 reach_size false s at f l = two_size s at f l
@@ -67,10 +68,10 @@ item_reach s key ber p i next e =
     other : item_step key ber s p ≡ nothing p → p + key + reach_in ber s (p + key) ≡ i.klv.value
     other z = let y : ◌≡◌ {A = ℕ} 0 1 = cc in absurd (omega arith)
 
-    go : p + key ≤ length s → (l : Length) → length_in ber s (p + key) ≡ l → p + key + reach_in ber s (p + key) ≡ i.klv.value
-    go h Cut l = other (item-cut key ber s p h l)
-    go h None l = other (item-none key ber s p h l)
-    go h (Is f) l =
+    go : p + key ≤ length s → (l : Result Field NoLength) → length_in ber s (p + key) ≡ l → p + key + reach_in ber s (p + key) ≡ i.klv.value
+    go h (Err Cut) l = other (item-cut key ber s p h l)
+    go h (Err Invalid) l = other (item-none key ber s p h l)
+    go h (Ok f) l =
         by_cases (dec_lt (length s - (p + key + f.size)) f.value)
         (λ m. other (item-short key ber s p h f l m))
         (λ m. let w = item-whole key ber s p h f l (omega arith) in

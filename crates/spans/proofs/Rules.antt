@@ -1,5 +1,6 @@
 -- What the walk's rules read at a place: up to the value of the record that starts there, and little past the place that they
 -- say to search from. Assumes nothing.
+use Rattle.std.specs.Prelude.{Err, Ok, Result}
 use Prim.Native.Nat.{ℕ, ◌+◌}
 use mathlib.Core.Path.{◌≡◌, ap, ◌∙◌}
 use mathlib.Core.List.{List}
@@ -7,8 +8,9 @@ use mathlib.Core.Bool.{Bool, true, false}
 use native.Mathlib.Omega.{arith}
 use lib.ListN.{length}
 use Rattle.labels.specs.Label.{key_at}
-use Rattle.lengths.specs.declared.Length.{Length}
-use Rattle.lengths.specs.declared.Length.TheVariants.{Is, Cut, None}
+use Rattle.lengths.specs.declared.Field.{Field}
+use Rattle.lengths.specs.declared.NoLength.{NoLength}
+use Rattle.lengths.specs.declared.NoLength.TheVariants.{Cut, Invalid}
 use Rattle.lengths.specs.Length.{length_at}
 use Rattle.lengths.proofs.Laws.{taken}
 use Rattle.walk.specs.declared.Turn.{Turn}
@@ -30,20 +32,20 @@ module _ (limit : ℕ) (s t : List ℕ) (same : length t ≡ length s) (e p : �
       key : (b : Bool) → key_at s p ≡ b → Agree s t p (p + 4) → key_at t p ≡ b
       key b k a = key_agree s t same p a ∙ k
 
-      len : (l : Length) → length_at s (p + 16) ≡ l → Agree s t p (p + 16 + reach l) → length_at t (p + 16) ≡ l
+      len : (l : Result Field NoLength) → length_at s (p + 16) ≡ l → Agree s t p (p + 16 + reach l) → length_at t (p + 16) ≡ l
       len l x a = length_agree s t same (p + 16) (λ q y z. a q (omega arith) (omega (arith, ap reach x))) ∙ x
 
       go : (u : Turn) → Rule limit s e p u → Agree s t p (far p u) → rules limit t e p ≡ u
       go u (at-end h) a = rule_end limit t e p h
       go u (no_key h k) a = rule_no_key limit t e p h (key false k (λ q y z. a q y (omega arith)))
-      go u (cut_off h k l) a = rule_cut limit t e p h (key true k (λ q y z. a q y (omega arith))) (len Cut l (λ q y z. a q y (omega arith)))
-      go u (no_length h k l) a = rule_none limit t e p h (key true k (λ q y z. a q y (omega arith))) (len None l (λ q y z. a q y (omega arith)))
+      go u (cut_off h k l) a = rule_cut limit t e p h (key true k (λ q y z. a q y (omega arith))) (len (Err Cut) l (λ q y z. a q y (omega arith)))
+      go u (no_length h k l) a = rule_none limit t e p h (key true k (λ q y z. a q y (omega arith))) (len (Err Invalid) l (λ q y z. a q y (omega arith)))
       go u (whole h k f l m) a =
           let w = taken s (p + 16) f l in
-          rule_record limit t e p h (key true k (λ q y z. a q y (omega arith))) f (len (Is f) l (λ q y z. a q y (omega arith))) m
+          rule_record limit t e p h (key true k (λ q y z. a q y (omega arith))) f (len (Ok f) l (λ q y z. a q y (omega arith))) m
       go u (waits h k f l m w) a =
           let v = taken s (p + 16) f l in
-          rule_wait limit t e p h (key true k (λ q y z. a q y (omega arith))) f (len (Is f) l (λ q y z. a q y (omega arith))) m w
+          rule_wait limit t e p h (key true k (λ q y z. a q y (omega arith))) f (len (Ok f) l (λ q y z. a q y (omega arith))) m w
       go u (late h k f l m w) a =
           let v = taken s (p + 16) f l in
-          rule_late limit t e p h (key true k (λ q y z. a q y (omega arith))) f (len (Is f) l (λ q y z. a q y (omega arith))) m w
+          rule_late limit t e p h (key true k (λ q y z. a q y (omega arith))) f (len (Ok f) l (λ q y z. a q y (omega arith))) m w

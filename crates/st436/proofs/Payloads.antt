@@ -1,6 +1,6 @@
 -- The payload goes as its lines' steps say, and is never longer than the element. Assumes nothing.
 use Prim.Native.Nat.{ℕ, zero, suc, ◌+◌, ◌-◌, ◌≤◌, ◌<◌}
-use mathlib.Core.Path.{◌≡◌, refl, sym, ◌∙◌}
+use mathlib.Core.Path.{◌≡◌, refl, sym, ap, ◌∙◌}
 use mathlib.Core.List.{List, [], ◌++◌, append_assoc, append-nil}
 use native.Mathlib.Omega.{arith}
 use borrow.Author.Tests.{le-leb, lt-leb}
@@ -55,6 +55,14 @@ payload_within s (suc left) p = by_line (λ r. payload_within s left r) (line_at
 pub payload_fits : (s : List ℕ) → length (payload_of s) ≤ length s
 unfolding payload_of
 payload_fits s = omega (arith, payload_within s (line_count s) 2)
+
+-- what was counted, with a line's part more
+pub counted_more : (s : List ℕ) (p left n : ℕ) (i : Counted) (next : ℕ) → found i next ≡ line_step s left p → n + length (payload_from s left p) ≡ length (payload_of s)
+    → n + i.line.len + length (payload_from s i.left next) ≡ length (payload_of s)
+counted_more s p left n i next e h =
+    let m = ap length (payload_more s p left i next (sym e)) in
+    let w = step-found s p left i next (sym e) in
+    omega (arith, h, simp length-append at m, part_long s p i.line next w.1)
 
 -- it is put where there is room for it, and else the output stays as it was
 module _ (s o : List ℕ) (n : ℕ) (e : n ≡ length (payload_of s)) where

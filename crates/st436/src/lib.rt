@@ -13,7 +13,7 @@ ghost use Rattle.st436.specs.Told.{first_line, whole_told, told, said};
 use parts::number_at;
 
 // A line's payload: where it stands in the element and how long it is, 0 where the line has none.
-#[derive(Clone, Copy)]
+#[derive(Clone, Copy, Debug, PartialEq, Eq)]
 pub struct Line {
     pub at: usize,
     pub len: usize,
@@ -54,7 +54,7 @@ fn payload_length(s: &[u8], at: usize, count: usize) -> usize
     requires { (at + 14 + count ≤ length s.now) × (count ≡ array_count s.now at) }
     ensures { result ≡ payload_length s.now at }
 {
-    let cut = parts::lesser(number_at(s, at + 4, 2) as usize, count);
+    let cut = (number_at(s, at + 4, 2) as usize).min(count);
     if cut < 4 {
         return 0;
     }
@@ -67,49 +67,33 @@ fn payload_length(s: &[u8], at: usize, count: usize) -> usize
     cut - 4
 }
 
-// A line that is whole and of bytes, with the place behind it, or none.
-#[derive(Clone, Copy)]
-enum Whole {
-    Is(Line, usize),
-    No,
-}
-
-// The line at a place.
-fn line_at(s: &[u8], at: usize) -> Whole
+// The line at a place, with the place behind it: none where it is not whole, or not of bytes.
+fn line_at(s: &[u8], at: usize) -> Option<(Line, usize)>
     ensures { whole_told at result ≡ line_at s.now at }
 {
     if s.len() < 14 {
-        return Whole::No;
+        return None;
     }
     if s.len() - 14 < at {
-        return Whole::No;
+        return None;
     }
     let array = at + 14;
     let count = number_at(s, at + 6, 4) as usize;
     if s.len() - array < count {
-        return Whole::No;
+        return None;
     }
     if !of_bytes(s, at, count) {
-        return Whole::No;
+        return None;
     }
     let len = payload_length(s, at, count);
-    Whole::Is(Line { at: at + 18, len }, array + count)
+    Some((Line { at: at + 18, len }, array + count))
 }
 
 // Where the lines of an element are read, and how many are left.
-#[derive(Clone, Copy)]
+#[derive(Clone, Copy, Debug, PartialEq, Eq)]
 pub struct Lines {
     pub at: usize,
     pub left: usize,
-}
-
-// What a step over the lines finds.
-#[derive(Clone, Copy)]
-pub enum Step {
-    // A line's payload, and the cursor past the line.
-    Line(Line, Lines),
-    // No good line is left.
-    End,
 }
 
 impl Lines {
@@ -123,19 +107,16 @@ impl Lines {
         }
     }
 
-    // The line at the cursor, with the moved cursor, or the end.
-    pub fn step(self, s: &[u8]) -> Step
+    // The line at the cursor, with the cursor past it: none where no good line is left.
+    pub fn step(self, s: &[u8]) -> Option<(Line, Lines)>
         ensures { told self.at result ≡ line_step s.now self.left self.at }
     {
         if self.left == 0 {
-            return Step::End;
+            return None;
         }
         let left = self.left - 1;
-        let w = line_at(s, self.at);
-        let Whole::Is(line, next) = w else {
-            return Step::End;
-        };
-        Step::Line(line, Lines { at: next, left })
+        let (line, next) = line_at(s, self.at)?;
+        Some((line, Lines { at: next, left }))
     }
 }
 
@@ -144,18 +125,12 @@ pub fn length_of(s: &[u8]) -> usize
     ensures { result ≡ length (payload_of s.now) }
 {
     let mut n = 0;
-    let mut at = 2;
-    let mut left = line_count(s);
-    loop {
-        let c = Lines { at, left };
-        let t = c.step(s);
-        let Step::Line(line, next) = t else {
-            return n;
-        };
+    let mut lines = Lines::first(s);
+    while let Some((line, next)) = lines.step(s) {
         n += line.len;
-        at = next.at;
-        left = next.left;
+        lines = next;
     }
+    n
 }
 
 // Puts an element's payload at the start of out, as much of it as there is room for.
@@ -163,45 +138,36 @@ fn put_payload(s: &[u8], out: &mut [u8]) -> usize
     ensures { Put (payload_of s.now) out.old 0 out.new result }
 {
     let mut r = 0;
-    let mut at = 2;
-    let mut left = line_count(s);
-    loop {
-        let c = Lines { at, left };
-        let t = c.step(s);
-        let Step::Line(line, next) = t else {
-            return r;
-        };
+    let mut lines = Lines::first(s);
+    while let Some((line, next)) = lines.step(s) {
         if 0 < line.len {
             r = text::put_all(out, r, line.bytes(s));
         }
-        at = next.at;
-        left = next.left;
+        lines = next;
     }
+    r
 }
 
-// What is said of a payload.
-#[derive(Clone, Copy)]
-pub enum Payload {
-    // It was put, and is that long.
-    Is(usize),
-    // It is longer than the output, and that long: refusal 3.
-    Longer(usize),
+// A payload is longer than the output, and that long: refusal 3.
+#[derive(Clone, Copy, Debug, PartialEq, Eq)]
+pub struct Longer {
+    pub needed: usize,
 }
 
-// Puts an element's payload at the start of out. Where out has less room, nothing is put. Room for the whole element is
-// enough for any payload, and spares the count.
-pub fn payload_into(s: &[u8], out: &mut [u8]) -> Payload
+// Puts an element's payload at the start of out, and answers how long it is. Where out has less room, nothing is put. Room for
+// the whole element is enough for any payload, and spares the count.
+pub fn payload_into(s: &[u8], out: &mut [u8]) -> Result<usize, Longer>
     ensures result_value { said result ≡ payload_said s.now (length out.old) }
     ensures out_after { out.new ≡ payload_into s.now out.old }
 {
     if s.len() <= out.len() {
         let put = put_payload(s, out);
-        return Payload::Is(put);
+        return Ok(put);
     }
-    let n = length_of(s);
-    if out.len() < n {
-        return Payload::Longer(n);
+    let needed = length_of(s);
+    if out.len() < needed {
+        return Err(Longer { needed });
     }
     put_payload(s, out);
-    Payload::Is(n)
+    Ok(needed)
 }

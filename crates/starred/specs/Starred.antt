@@ -1,8 +1,9 @@
 -- The starred numbers of docs/RULES.md, "Numbers on both sides", together.
-use Rattle.std.specs.Prelude.{ℕ, ◌-◌, ◌^◌, ◌<◌, ◌≡◌, List, [], ◌∷◌, ◌++◌, Bool, true, false, length, replicate, Float, Option, Some}
+use Rattle.std.specs.Prelude.{ℕ, ◌-◌, ◌^◌, ◌<◌, ◌≡◌, List, [], ◌∷◌, ◌++◌, Bool, true, false, length, replicate, Float, Option, Some, Err, Ok, Result}
 use Rattle.steps.specs.Told.{nothing}
-use Rattle.lengths.specs.declared.Length.{Length}
-use Rattle.lengths.specs.declared.Length.TheVariants.{Is, Cut, None}
+use Rattle.lengths.specs.declared.Field.{Field}
+use Rattle.lengths.specs.declared.NoLength.{NoLength}
+use Rattle.lengths.specs.declared.NoLength.TheVariants.{Cut, Invalid}
 use Rattle.lengths.specs.Length.{length_at}
 use Rattle.labels.specs.Label.{key_at}
 use Rattle.klv.specs.Item.{item}
@@ -24,8 +25,8 @@ abbrev pub key : List ℕ
 key = 0x06 ∷ 0x0e ∷ 0x2b ∷ 0x34 ∷ 0x01 ∷ 0x01 ∷ 0x01 ∷ 0x0d ∷ 0x0e ∷ 0x15 ∷ 0x00 ∷ 0x01 ∷ 0x00 ∷ 0x01 ∷ 0x00 ∷ 0x00 ∷ []
 
 -- a length: its number, its bytes, and whether that is its shortest form ("L1. How long the length field was")
-abbrev pub is : ℕ → ℕ → Bool → Length
-is value size shortest = Is (record { value = value; size = size; shortest = shortest })
+abbrev pub is : ℕ → ℕ → Bool → Result Field NoLength
+is value size shortest = Ok (record { value = value; size = size; shortest = shortest })
 
 -- `7f`: 127, 1 byte. `80`: 0, 1 byte. `8100`: 0, 2 bytes. `820100`: 256, 3 bytes. `88` and eight `ff`: 2^64 - 1. `89`: none. `81` alone: cut
 abbrev pub Lengths : Type 0
@@ -35,8 +36,8 @@ Lengths =
     × (length_at (0x81 ∷ 0x00 ∷ []) 0 ≡ is 0 2 false)
     × (length_at (0x82 ∷ 0x01 ∷ 0x00 ∷ []) 0 ≡ is 256 3 true)
     × (length_at (0x88 ∷ replicate 8 0xff) 0 ≡ is (2 ^ 64 - 1) 9 true)
-    × (length_at (0x89 ∷ []) 0 ≡ None)
-    × (length_at (0x81 ∷ []) 0 ≡ Cut)
+    × (length_at (0x89 ∷ []) 0 ≡ Err Invalid)
+    × (length_at (0x81 ∷ []) 0 ≡ Err Cut)
 
 -- 16 bytes: no record. 17, a key and `00`: one, whatever the key's other bytes. A key and `01`, no more: none when finished
 abbrev pub Finished : Type 0

@@ -1,4 +1,5 @@
 -- Laws of `specs/Strict.antt` at one place: its cases, each from facts about numbers, and the view that chooses one. Assumes nothing.
+use Rattle.std.specs.Prelude.{Err, Ok, Result}
 use Prim.Native.Nat.{ℕ, ◌+◌, ◌-◌, ◌≤◌, ◌<◌}
 use mathlib.Core.Path.{◌≡◌, refl}
 use mathlib.Core.List.{List}
@@ -12,8 +13,8 @@ use Rattle.steps.specs.Told.{Told, found, nothing, refused}
 use Rattle.steps.proofs.Laws.{Moves}
 use Rattle.labels.specs.Label.{key_at}
 use Rattle.lengths.specs.declared.Field.{Field}
-use Rattle.lengths.specs.declared.Length.{Length}
-use Rattle.lengths.specs.declared.Length.TheVariants.{Is, Cut, None}
+use Rattle.lengths.specs.declared.NoLength.{NoLength}
+use Rattle.lengths.specs.declared.NoLength.TheVariants.{Cut, Invalid}
 use Rattle.lengths.specs.Length.{length_at}
 use Rattle.klv.specs.Item.{klv, past}
 use Rattle.strict.specs.Strict.{whole_before, strict_step}
@@ -45,33 +46,33 @@ module _ (s : List ℕ) (e p : ℕ) where
       indefinite b = simp (ne_eqb _ _ below, le-ltb _ _ h, k, lt-leb 0x89 (get_or s (p + 16) 0) (omega arith), eq-eqb _ _ b)
 
       module _ (low : get_or s (p + 16) 0 < 0x89) (plain : get_or s (p + 16) 0 ≡ 0x80 → ⊥) where
-        at_length : (l : Length) → length_at s (p + 16) ≡ l → strict_step s e p ≡ whole_before e p l
+        at_length : (l : Result Field NoLength) → length_at s (p + 16) ≡ l → strict_step s e p ≡ whole_before e p l
         unfolding strict_step
         at_length l x = simp (ne_eqb _ _ below, le-ltb _ _ h, k, lt-leb _ _ low, ne_eqb _ _ plain, x)
 
-        pub past-cut : length_at s (p + 16) ≡ Cut → strict_step s e p ≡ refused 14 p
+        pub past-cut : length_at s (p + 16) ≡ Err Cut → strict_step s e p ≡ refused 14 p
         unfolding whole_before
-        past-cut l = at_length Cut l
+        past-cut l = at_length (Err Cut) l
 
-        pub past-none : length_at s (p + 16) ≡ None → strict_step s e p ≡ refused 14 p
+        pub past-none : length_at s (p + 16) ≡ Err Invalid → strict_step s e p ≡ refused 14 p
         unfolding whole_before
-        past-none l = at_length None l
+        past-none l = at_length (Err Invalid) l
 
-        module _ (f : Field) (l : length_at s (p + 16) ≡ Is f) where
+        module _ (f : Field) (l : length_at s (p + 16) ≡ Ok f) where
           pub past_end : e < past (klv 16 p f) → strict_step s e p ≡ refused 14 p
           unfolding whole_before
-          past_end m = rw (at_length (Is f) l) (simp (lt-leb _ _ m))
+          past_end m = rw (at_length (Ok f) l) (simp (lt-leb _ _ m))
 
           pub next : past (klv 16 p f) ≤ e → strict_step s e p ≡ found p (past (klv 16 p f))
           unfolding whole_before
-          next m = rw (at_length (Is f) l) (simp (le-leb _ _ m))
+          next m = rw (at_length (Ok f) l) (simp (le-leb _ _ m))
 
 -- A step as a choice of one case, with what holds in it: the end, a refusal by its number, a record
 pub data Case (s : List ℕ) (e p : ℕ) : Told ℕ → Type 0 where
   c_end : p ≡ e → Case s e p (nothing e)
   c_wrong : (n : ℕ) → Case s e p (refused (10 + n) p)
   c_next : 17 ≤ e - p → key_at s p ≡ true → (get_or s (p + 16) 0 ≡ 0x80 → ⊥)
-      → (f : Field) → length_at s (p + 16) ≡ Is f → past (klv 16 p f) ≤ e → Case s e p (found p (past (klv 16 p f)))
+      → (f : Field) → length_at s (p + 16) ≡ Ok f → past (klv 16 p f) ≤ e → Case s e p (found p (past (klv 16 p f)))
 
 pub case : (s : List ℕ) (e p : ℕ) → Case s e p (strict_step s e p)
 case s e p =
@@ -80,13 +81,13 @@ case s e p =
     (λ h. by_key (omega arith) (key_at s p) refl))
   where
     at_length : 17 ≤ e - p → key_at s p ≡ true → get_or s (p + 16) 0 < 0x89 → (get_or s (p + 16) 0 ≡ 0x80 → ⊥)
-        → (l : Length) → length_at s (p + 16) ≡ l → Case s e p (strict_step s e p)
-    at_length h k low n (Is f) l =
+        → (l : Result Field NoLength) → length_at s (p + 16) ≡ l → Case s e p (strict_step s e p)
+    at_length h k low n (Ok f) l =
         by_cases (dec_lt e (past (klv 16 p f)))
         (λ m. rw (past_end s e p h k low n f l m) (c_wrong 4))
         (λ m. rw (next s e p h k low n f l (omega arith)) (c_next h k n f l (omega arith)))
-    at_length h k low n Cut l = rw (past-cut s e p h k low n l) (c_wrong 4)
-    at_length h k low n None l = rw (past-none s e p h k low n l) (c_wrong 4)
+    at_length h k low n (Err Cut) l = rw (past-cut s e p h k low n l) (c_wrong 4)
+    at_length h k low n (Err Invalid) l = rw (past-none s e p h k low n l) (c_wrong 4)
 
     by_key : 17 ≤ e - p → (b : Bool) → key_at s p ≡ b → Case s e p (strict_step s e p)
     by_key h false k = rw (no_key s e p h k) (c_wrong 1)

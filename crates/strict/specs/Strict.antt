@@ -1,18 +1,19 @@
 -- The strict gate: docs/RULES.md, "L7. A strict gate".
-use Rattle.std.specs.Prelude.{ℕ, ◌+◌, ◌-◌, List, cond, not, length, get_or, ltb, leb, eqb}
+use Rattle.std.specs.Prelude.{ℕ, ◌+◌, ◌-◌, List, cond, not, length, get_or, ltb, leb, eqb, Err, Ok, Result}
 use Rattle.steps.specs.Told.{Told, found, nothing, refused}
 use Rattle.steps.specs.Listed.{end_from}
 use Rattle.labels.specs.Label.{key_at}
-use Rattle.lengths.specs.declared.Length.{Length}
-use Rattle.lengths.specs.declared.Length.TheVariants.{Is, Cut, None}
+use Rattle.lengths.specs.declared.Field.{Field}
+use Rattle.lengths.specs.declared.NoLength.{NoLength}
+use Rattle.lengths.specs.declared.NoLength.TheVariants.{Cut, Invalid}
 use Rattle.lengths.specs.Length.{length_at}
 use Rattle.klv.specs.Item.{klv, past}
 
 -- a record at p, and the place behind it; 14: length or value not wholly before the end
-unfoldable pub whole_before : ℕ → ℕ → Length → Told ℕ
-whole_before e p (Is f) = cond (leb (past (klv 16 p f)) e) (found p (past (klv 16 p f))) (refused 14 p)
-whole_before e p Cut = refused 14 p
-whole_before e p None = refused 14 p
+unfoldable pub whole_before : ℕ → ℕ → Result Field NoLength → Told ℕ
+whole_before e p (Ok f) = cond (leb (past (klv 16 p f)) e) (found p (past (klv 16 p f))) (refused 14 p)
+whole_before e p (Err Cut) = refused 14 p
+whole_before e p (Err Invalid) = refused 14 p
 
 -- A step at p of a file s with the end e, where it is over. 10: fewer than 17 bytes left; 11: no key start; 12: length of 89h
 -- or above; 13: length 80h; 14

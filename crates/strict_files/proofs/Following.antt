@@ -1,4 +1,5 @@
 -- The gate's step finds the record that stands at a place, and so the gate follows the records. Assumes nothing.
+use Rattle.std.specs.Prelude.{Ok, Result}
 use Prim.Native.Nat.{ℕ, zero, suc, ◌+◌, ◌-◌, ◌≤◌, ◌<◌}
 use mathlib.Core.Path.{◌≡◌, refl, sym, ap, ◌∙◌}
 use mathlib.Core.List.{List}
@@ -6,8 +7,7 @@ use native.Mathlib.Omega.{arith}
 use lib.ListN.{get_or}
 use Rattle.steps.specs.Told.{Told, found, nothing, refused}
 use Rattle.lengths.specs.declared.Field.{Field}
-use Rattle.lengths.specs.declared.Length.{Length}
-use Rattle.lengths.specs.declared.Length.TheVariants.{Is}
+use Rattle.lengths.specs.declared.NoLength.{NoLength}
 use Rattle.lengths.specs.Length.{length_at}
 use Rattle.lengths.proofs.Laws as lengths
 use Rattle.lengths.proofs.Laws.{taken}
@@ -19,10 +19,10 @@ use Rattle.strict.proofs.Following.{follow_next, follow_last}
 use Rattle.strict_files.specs.Files.{RecordAt, Follow, none, more}
 
 -- a length's first byte is below 89h
-first_low : (s : List ℕ) (at : ℕ) (f : Field) → length_at s at ≡ Is f → get_or s at 0 < 0x89
+first_low : (s : List ℕ) (at : ℕ) (f : Field) → length_at s at ≡ Ok f → get_or s at 0 < 0x89
 first_low s at f = go (length_at s at) (lengths.case s at)
   where
-    go : (l : Length) → lengths.Case s at l → l ≡ Is f → get_or s at 0 < 0x89
+    go : (l : Result Field NoLength) → lengths.Case s at l → l ≡ Ok f → get_or s at 0 < 0x89
     go l (lengths.c_past h) x = absurd (let z : ◌≡◌ {A = ℕ} 0 1 = cc in omega arith)
     go l (lengths.c_short h b) x = omega arith
     go l (lengths.c_none h b) x = absurd (let z : ◌≡◌ {A = ℕ} 0 1 = cc in omega arith)

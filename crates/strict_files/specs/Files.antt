@@ -1,10 +1,9 @@
 -- Which files the strict gate accepts: docs/RULES.md, "L7. A strict gate".
-use Rattle.std.specs.Prelude.{ℕ, ◌+◌, ◌≤◌, ◌<◌, ◌≡◌, List, [], ◌∷◌, true, false, ◌↔◌, length, get_or}
+use Rattle.std.specs.Prelude.{ℕ, ◌+◌, ◌≤◌, ◌<◌, ◌≡◌, List, [], ◌∷◌, true, false, ◌↔◌, length, get_or, Ok}
 use Rattle.steps.specs.Told.{nothing, refused}
 use Rattle.steps.specs.Passed.{Passed}
 use Rattle.labels.specs.Label.{key_at}
 use Rattle.lengths.specs.declared.Field.{Field}
-use Rattle.lengths.specs.declared.Length.TheVariants.{Is}
 use Rattle.lengths.specs.Length.{length_at}
 use Rattle.klv.specs.Item.{Item, klv, past}
 use Rattle.records.specs.Records.{finished_from}
@@ -19,7 +18,7 @@ Plain s p = get_or s (p + 16) 0 ≡ 0x80 → ⊥
 pub record RecordAt (s : List ℕ) (e p q : ℕ) : Type 0 where
   pub key : key_at s p ≡ true
   pub field : Field
-  pub long : length_at s (p + 16) ≡ Is field
+  pub long : length_at s (p + 16) ≡ Ok field
   pub plain : Plain s p
   pub ends : past (klv 16 p field) ≡ q
   pub within : q ≤ e
@@ -50,4 +49,4 @@ StrictFiles = (s : List ℕ) (e : ℕ) → StrictFile s e
 -- 80h is the one length of one byte that is not the shortest form: what a record says of its length tells it
 abbrev pub EightyByForm : Type 0
 EightyByForm =
-    (s : List ℕ) (at : ℕ) (f : Field) → length_at s at ≡ Is f → (get_or s at 0 ≡ 0x80) ↔ ((f.size ≡ 1) × (f.shortest ≡ false))
+    (s : List ℕ) (at : ℕ) (f : Field) → length_at s at ≡ Ok f → (get_or s at 0 ≡ 0x80) ↔ ((f.size ≡ 1) × (f.shortest ≡ false))

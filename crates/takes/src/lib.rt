@@ -42,30 +42,26 @@ fn next_of(s: &[u8], end: usize, at: usize, number: u64) -> Option<Stop>
     requires { end ≤ length s.now }
     ensures { result ≡ side_of s.now (left_of s.now end at number) }
 {
-    let r = Arri {
+    let walk = Arri {
         place: Place {
             at,
             since: at,
             number,
         },
-    }
-    .step(s, end);
-    match r {
-        FrameStep::Frame(f, _, c) => {
-            let values = arri_values::values_of(s, f);
-            Some(Stop {
-                recorded: Recorded {
-                    overlong: f.overlong,
-                    values,
-                },
-                next: c.at,
-            })
-        }
+    };
+    match walk.step(s, end) {
+        Ok(FrameStep::Frame(f, _, c)) => Some(Stop {
+            recorded: Recorded {
+                overlong: f.overlong,
+                values: arri_values::values_of(s, f),
+            },
+            next: c.at,
+        }),
         // Never: ARRI's walk gives nothing beside frames.
-        FrameStep::Given(_, _, _) => None,
-        FrameStep::Rests(_) => None,
+        Ok(FrameStep::Given(_, _, _)) => None,
+        Ok(FrameStep::Rests(_)) => None,
         // Never: the end lies within the buffer.
-        FrameStep::Refused => None,
+        Err(_) => None,
     }
 }
 

@@ -6,7 +6,6 @@ ghost use Rattle.std.specs.Prelude.{◌≡◌, ◌+◌, ◌≤◌, ◌<◌, leng
 ghost use Rattle.tally.specs.Groups.{same_group, same, groups_of, answer_of, front};
 ghost use Rattle.tally.specs.Adding.{group_of, group_at, Below, Added};
 
-use parts::lesser;
 use walk::{Cursor, Step};
 
 // Whether two labels group together: the byte at 7 doesn't count, nor does the byte at 5 where it codes the items of both.
@@ -31,21 +30,19 @@ fn group_of(s: &[u8], firsts: &[usize], groups: usize, p: usize) -> usize
     requires { groups ≤ length firsts.now }
     ensures { result ≡ group_of s.now firsts.now groups p }
 {
-    let mut j = 0;
-    while j < groups {
+    for j in 0..groups {
         if same_at(s, firsts[j], p) {
             return j;
         }
-        j += 1;
     }
-    j
+    groups
 }
 
 // The number of the group that the record at p belongs to, among as many as are stated, the list has, and 64; else 4095.
 pub fn group_at(s: &[u8], firsts: &[usize], groups: usize, p: usize) -> u64
     ensures { result ≡ group_at s.now firsts.now groups p }
 {
-    let n = lesser(lesser(groups, 64), firsts.len());
+    let n = groups.min(64).min(firsts.len());
     let j = group_of(s, firsts, n, p);
     if j < n { j as u64 } else { 4095 }
 }
@@ -101,19 +98,12 @@ fn count_in(s: &[u8], firsts: &mut [usize], counts: &mut [usize]) -> Tally
         groups: 0,
         other: 0,
     };
-    let mut at = 0;
-    loop {
-        let c = Cursor { at, since: at };
-        let r = c.step(s, s.len());
-        match r {
-            Step::Rests(_) => return t,
-            Step::Refused => return t,
-            Step::Record(k, _, next) => {
-                t = add(s, firsts, counts, t, k.at);
-                at = next.at;
-            }
-        }
+    let mut c = Cursor { at: 0, since: 0 };
+    while let Step::Record(k, _, next) = c.step(s, s.len()).unwrap() {
+        t = add(s, firsts, counts, t, k.at);
+        c = next;
     }
+    t
 }
 
 // Puts the place of each group's first record, and how many it has, at the start of the lent lists, for the finished walk

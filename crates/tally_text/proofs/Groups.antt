@@ -18,15 +18,15 @@ pub grouping_start : (line : ℕ → ℕ → List ℕ) (f c o : List ℕ) (at : 
 grouping_start line f c o at = record { done = []; put = put-none o at; rest = refl }
 
 pub grouping_next : {line : ℕ → ℕ → List ℕ} {f c o₀ : List ℕ} {at : ℕ} {o : List ℕ} {r j : ℕ} → Grouping line f c o₀ at o r j → j < length f → j < length c
-    → {o₁ : List ℕ} {r₁ : ℕ} → Put (line (get_or f j 0) (get_or c j 0)) o r o₁ r₁ → Grouping line f c o₀ at o₁ r₁ (j + 1)
+    → {x y k : ℕ} → x ≡ get_or f j 0 → y ≡ get_or c j 0 → k ≡ j + 1 → {o₁ : List ℕ} {r₁ : ℕ} → Put (line x y) o r o₁ r₁ → Grouping line f c o₀ at o₁ r₁ k
 unfolding each_group
-grouping_next {line} {f} {c} {o₀} {at} {o} {r} {j} g hf hc a =
+grouping_next {line} {f} {c} {o₀} {at} {o} {r} {j} g hf hc {x} {y} {k} ex ey ek a =
     let l = line (get_or f j 0) (get_or c j 0) in
-    record {
+    rw ek (record {
       done = g.done ++ l;
-      put = g.put ▹ a;
+      put = g.put ▹ rw (ex, ey) at a;
       rest = append_assoc g.done l (each_group line (drop (j + 1) f) (drop (j + 1) c)) ∙ rw add-one (rw (drop-cons f j 0 hf, drop-cons c j 0 hc) at g.rest);
-    }
+    })
 
 pub grouping_over : {line : ℕ → ℕ → List ℕ} {f c o₀ : List ℕ} {at : ℕ} {o : List ℕ} {r j : ℕ} → Grouping line f c o₀ at o r j → length f ≤ j → Put (each_group line f c) o₀ at o r
 unfolding each_group

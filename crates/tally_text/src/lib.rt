@@ -44,10 +44,8 @@ fn put_groups(
     ensures { Put (each_group (group_text before.now between behind s.now) firsts.now counts.now) out.old at out.new result }
 {
     let mut p = at;
-    let mut j = 0;
-    while j < firsts.len() {
-        p = put_group(out, p, before, between, behind, s, firsts[j], counts[j]);
-        j += 1;
+    for (first, n) in firsts.iter().zip(counts) {
+        p = put_group(out, p, before, between, behind, s, *first, *n);
     }
     p
 }

@@ -150,29 +150,28 @@ fn fill(err: Stderr, t: Tape, buf: &mut [u8]) -> Tape
 }
 
 // What a call's answer makes of a file.
-fn stage_of(err: Stderr, a: FrameAnswer) -> Stage {
+fn stage_of(a: FrameAnswer) -> Stage {
     match a {
         FrameAnswer::Frame(f, _) => Stage::Frame(f),
         FrameAnswer::Nothing => Stage::Goes,
         // Never: ARRI's walk gives nothing beside frames.
         FrameAnswer::Given(_, _) => Stage::Goes,
-        // Never: no more is fed than the file's bytes.
-        FrameAnswer::Refused(_) => {
-            let _ = err.write_all(b"a file's walk refuses its bytes\n");
-            Stage::Failed
-        }
     }
 }
 
 // Feeds the bytes that are in the room, from the i-th on.
 fn feed(err: Stderr, t: Tape, buf: &[u8], i: usize) -> Tape {
-    let f = fed_frames::feed(t.walk, parts::part(buf, i, saturating_sub(t.count, i)));
-    let walk = f.walk;
-    let a = f.answer;
-    let stage = stage_of(err, a);
+    let walk = t.walk;
     let from = t.from;
     let count = t.count;
-    moved(t, walk, from, count, stage)
+    match fed_frames::feed(walk, parts::part(buf, i, saturating_sub(count, i))) {
+        Ok(f) => moved(t, f.walk, from, count, stage_of(f.answer)),
+        // Never: no more is fed than the file's bytes.
+        Err(_) => {
+            let _ = err.write_all(b"a file's walk refuses its bytes\n");
+            moved(t, walk, from, count, Stage::Failed)
+        }
+    }
 }
 
 // Feeds what is in the room of the bytes that come next, or reads them.

@@ -1,13 +1,14 @@
 -- A text put after another is both put as one. Assumes nothing.
 use Prim.Native.Nat.{ℕ, suc, ◌+◌, ◌-◌, ◌≤◌, ◌<◌, min}
 use mathlib.Core.Path.{◌≡◌, refl, sym, ap, ◌∙◌}
-use mathlib.Core.List.{List, [], ◌∷◌, ◌++◌}
+use mathlib.Core.List.{List, [], ◌∷◌, ◌++◌, append_assoc}
 use mathlib.Core.Logic.{by_cases}
 use native.Mathlib.Numerals.{add-one}
 use native.Mathlib.Omega.{arith}
 use native.Mathlib.Decide.{dec_lt}
-use lib.ListN.{length, get_or, take, set, length-append}
-use lib.Seq.{sets, length-sets, set_out, take-suc, take_all}
+use lib.ListN.{length, get_or, take, drop, set, length-append, length-take, take-append-drop}
+use lib.Seq.{sets, sets-eq, length-sets, set_out, take-suc, take_all, drop-drop}
+use borrow.Rule.Slice.PartMut.{put_mid}
 use Rattle.text.specs.Write.{Put}
 
 pub sets_append : (t u o : List ℕ) (at : ℕ) → sets o at (t ++ u) ≡ sets (sets o at t) (at + length t) u
@@ -66,3 +67,23 @@ put-more s at i {o} h m a = let x : at + (i + 1) ≡ at + i + 1 = omega arith in
 
 pub put-end : (s : List ℕ) {o₀ : List ℕ} {at : ℕ} (i : ℕ) {o : List ℕ} {r : ℕ} → length s ≤ i → Put (take i s) o₀ at o r → Put s o₀ at o r
 put-end s i h a = rw (take_all i s h) at a
+
+-- as much of a text as there is room for, written as one part
+sets_cut : (s o : List ℕ) (at n : ℕ) → n ≡ min (length s) (length o - at) → sets o at s ≡ sets o at (take n s)
+sets_cut s o at n e =
+    by_cases (dec_lt n (length s))
+    (λ m. ap (sets o at) (sym (take-append-drop n s)) ∙ sets_append (take n s) (drop n s) o at
+    ∙ sets_out (drop n s) (sets o at (take n s)) (at + length (take n s)) (rw (length-sets o at (take n s)) (omega (arith, length-take n s))))
+    (λ m. ap (sets o at) (sym (take_all n s (omega arith))))
+
+pub put_part : (s o ys : List ℕ) (at n k : ℕ) → at ≤ length o → n ≡ min (length s) (length o - at) → k ≡ n → ys ≡ take n s → Put s o at (put_mid at k o ys) (at + n)
+put_part s o ys at n k h e q t =
+    let long : length (take n s) ≡ n = omega (arith, length-take n s) in
+    record {
+      wrote = sym (sets_cut s o at n e ∙ sets-eq (take n s) o at (omega arith)
+      ∙ append_assoc (take at o) (take n s) _ ∙ rw (drop-drop, long, q, t));
+      place = omega arith;
+    }
+
+pub put_past : (s o : List ℕ) (at : ℕ) → length o < at → Put s o at o at
+put_past s o at h = record { wrote = sym (sets_out s o at (omega arith)); place = omega arith }

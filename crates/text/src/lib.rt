@@ -4,7 +4,7 @@
 // place after it. So `at = put_decimal(out, at, 7); at = put_byte(out, at, b';');` puts `7;`.
 #![tactic(auto)]
 
-ghost use Rattle.std.specs.Prelude.{◌≡◌, [], ◌∷◌, ◌+◌, ◌≤◌, ◌<◌, length};
+ghost use Rattle.std.specs.Prelude.{◌≡◌, [], ◌∷◌, ◌<◌};
 ghost use Rattle.io.specs.Digits.{hex_digit_ascii};
 ghost use Rattle.text.specs.Write.{decimal_of, hex_of, Put};
 
@@ -19,35 +19,16 @@ pub fn put_byte(out: &mut [u8], at: usize, b: u8) -> usize
     at
 }
 
-// Puts all of s where there is room for it. No test of room for each byte, so that the compiler copies many at once.
-fn put_whole(out: &mut [u8], at: usize, s: &[u8]) -> usize
-    requires { at + length s.now ≤ length out.old }
-    ensures { Put s.now out.old at out.new result }
-{
-    let mut i = 0;
-    while i < s.len() {
-        out[at + i] = s[i];
-        i += 1;
-    }
-    at + i
-}
-
 // Puts all of s.
 pub fn put_all(out: &mut [u8], at: usize, s: &[u8]) -> usize
     ensures { Put s.now out.old at out.new result }
 {
-    if at <= out.len() {
-        if s.len() <= out.len() - at {
-            return put_whole(out, at, s);
-        }
+    if out.len() < at {
+        return at;
     }
-    let mut p = at;
-    let mut i = 0;
-    while i < s.len() {
-        p = put_byte(out, p, s[i]);
-        i += 1;
-    }
-    p
+    let n = s.len().min(out.len() - at);
+    out[at..at + n].copy_from_slice(&s[..n]);
+    at + n
 }
 
 // Puts a number in decimal.
@@ -64,7 +45,7 @@ fn hex_digit(d: u8) -> u8
     requires { d < 16 }
     ensures { result ≡ hex_digit_ascii d }
 {
-    if d < 10 { 48 + d } else { 87 + d }
+    if d < 10 { b'0' + d } else { b'a' + (d - 10) }
 }
 
 // Puts the bytes of s in lowercase hex.
@@ -72,12 +53,9 @@ pub fn put_hex(out: &mut [u8], at: usize, s: &[u8]) -> usize
     ensures { Put (hex_of s.now) out.old at out.new result }
 {
     let mut p = at;
-    let mut i = 0;
-    while i < s.len() {
-        let b = s[i];
+    for b in s {
         p = put_byte(out, p, hex_digit(b / 16));
         p = put_byte(out, p, hex_digit(b % 16));
-        i += 1;
     }
     p
 }

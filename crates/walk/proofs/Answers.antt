@@ -1,7 +1,10 @@
 -- The steps' answers from where the turns lead, and that two answers which say the same are the same. Assumes nothing.
-use Prim.Native.Nat.{ℕ, ◌-◌, ◌≤◌, ◌<◌, max}
+use Rattle.std.specs.Prelude.{Result, Ok, Err, IsOk}
+use Prim.Native.Nat.{ℕ, zero, suc, ◌-◌, ◌≤◌, ◌<◌, max}
 use mathlib.Core.Path.{◌≡◌, refl, sym, ap, ◌∙◌}
 use mathlib.Core.List.{List}
+use mathlib.Core.Logic.{by_cases}
+use native.Mathlib.Decide.{dec_lt}
 use native.Mathlib.Omega.{arith}
 use borrow.Author.Tests.{le-ltb, lt-ltb}
 use lib.ListN.{length}
@@ -14,11 +17,16 @@ use Rattle.klv.specs.Item.{Item, item, past}
 use Rattle.walk.specs.declared.Walked.{Walked}
 use Rattle.walk.specs.declared.Walked.TheVariants.{Found, Stopped, Lost}
 use Rattle.walk.specs.declared.Cursor as at
+use Rattle.walk.specs.declared.WalkError.{WalkError}
+use Rattle.walk.specs.declared.WalkError.TheVariants.{ShortBuffer, OverLimit}
 use Rattle.walk.specs.declared.Step.{Step}
 use Rattle.walk.specs.declared.Step.TheVariants as step
 use Rattle.walk.specs.Walk.{walked, finished_after, finished_by, arriving_after, arriving_by, stepped, finished_step, arriving_step}
 use Rattle.walk.specs.Passed.{last_on, counted, passing, finished_passing, arriving_passing}
-use Rattle.walk.specs.Told.{told}
+use Rattle.walk.specs.declared.Way.{Way}
+use Rattle.walk.specs.declared.Way.TheVariants.{Finished, Arriving}
+use Rattle.walk.specs.Told.{told, step_on}
+use Rattle.walk.specs.Ways.{bounds_of, rest_of}
 
 -- only an end past the buffer, or bytes past the limit, are refused
 
@@ -180,20 +188,86 @@ passing_never k (found i r) never n q x = let z : ◌≡◌ {A = ℕ} 0 1 = cc i
 passing_never k (nothing r) never n q x = let z : ◌≡◌ {A = ℕ} 0 1 = cc in omega arith
 passing_never k (refused m r) never n q x = never m r refl
 
+-- so a step within the buffer has an answer
+pub step-ok : (s : List ℕ) (k : Cursor ℕ) (r : Result Step WalkError) → told s k r ≡ finished_passing s (length s) k → IsOk r
+step-ok s k (Ok x) e = refl
+step-ok s k (Err ShortBuffer) e = absurd (passing_never k _ (not-refused s (length s) k.at (omega arith)) _ _ e)
+step-ok s k (Err OverLimit) e = absurd (passing_never k _ (not-refused s (length s) k.at (omega arith)) _ _ e)
+
+pub arrive-ok : (limit : ℕ) (a : List ℕ) (k : Cursor ℕ) (r : Result Step WalkError) → length a ≤ limit → told a k r ≡ arriving_passing limit a k → IsOk r
+arrive-ok limit a k (Ok x) h e = refl
+arrive-ok limit a k (Err ShortBuffer) h e = absurd (passing_never k _ (not-past_limit limit a k.at h) _ _ e)
+arrive-ok limit a k (Err OverLimit) h e = absurd (passing_never k _ (not-past_limit limit a k.at h) _ _ e)
+
 abbrev place : Cursor ℕ → at.Cursor
 place c = record { at = c.at; since = c.carried }
 
 -- two answers of a step that say the same are the same
-pub step_once : (n : ℕ) (s : List ℕ) (k : Cursor ℕ) (a b : Step) → told n s k a ≡ told n s k b → a ≡ b
-step_once n s k a b x = back a ∙ ap answer x ∙ sym (back b)
+pub step_once : (s : List ℕ) (k : Cursor ℕ) (a b : Result Step WalkError) → told s k a ≡ told s k b → a ≡ b
+step_once s k a b x = back a ∙ ap answer x ∙ sym (back b)
   where
     -- what is said gives the answer back
-    answer : ToldAt (Cursor ℕ) (Passed Item) → Step
-    answer (found i q) = step.Record i.it.klv i.passed (place q)
-    answer (nothing q) = step.Rests (place q)
-    answer (refused m q) = step.Refused
+    error : ℕ → WalkError
+    error zero = ShortBuffer
+    error (suc zero) = ShortBuffer
+    error (suc (suc n)) = OverLimit
 
-    back : (a : Step) → a ≡ answer (told n s k a)
-    back (step.Record r m c) = refl
-    back (step.Rests c) = refl
-    back step.Refused = refl
+    answer : ToldAt (Cursor ℕ) (Passed Item) → Result Step WalkError
+    answer (found i q) = Ok (step.Record i.it.klv i.passed (place q))
+    answer (nothing q) = Ok (step.Rests (place q))
+    answer (refused m q) = Err (error m)
+
+    back : (a : Result Step WalkError) → a ≡ answer (told s k a)
+    back (Ok (step.Record r m c)) = refl
+    back (Ok (step.Rests c)) = refl
+    back (Err ShortBuffer) = refl
+    back (Err OverLimit) = refl
+
+-- A step of either walk, by its bounds
+
+module _ (s : List ℕ) where
+  finished_bounds : (end e limit : ℕ) → bounds_of (Finished end) s ≡ Ok (e, limit) → (end ≤ length s) × (end ≡ e) × (0 ≡ limit)
+  unfolding bounds_of
+  finished_bounds end e limit b =
+      by_cases (dec_lt (length s) end)
+      (λ h. absurd (let z : ◌≡◌ {A = ℕ} 0 1 = let y = lt-ltb _ _ h in cc in omega arith))
+      (λ h. let x = le-ltb (length s) end (omega arith) in let z : ◌≡◌ {A = ℕ × ℕ} (end, 0) (e, limit) = cc in (omega arith, ap (λ p. p.0) z, ap (λ p. p.1) z))
+
+  arriving_bounds : (most e limit : ℕ) → bounds_of (Arriving most) s ≡ Ok (e, limit) → (length s ≤ most) × (length s ≡ e) × (most ≡ limit)
+  unfolding bounds_of
+  arriving_bounds most e limit b =
+      by_cases (dec_lt most (length s))
+      (λ h. absurd (let z : ◌≡◌ {A = ℕ} 0 1 = let y = lt-ltb _ _ h in cc in omega arith))
+      (λ h. let x = le-ltb most (length s) (omega arith) in let z : ◌≡◌ {A = ℕ × ℕ} (length s, most) (e, limit) = cc in (omega arith, ap (λ p. p.0) z, ap (λ p. p.1) z))
+
+  pub in-bounds : (way : Way) (e limit : ℕ) → bounds_of way s ≡ Ok (e, limit) → e ≤ length s
+  in-bounds (Finished end) e limit b = omega (arith, finished_bounds end e limit b)
+  in-bounds (Arriving most) e limit b = omega (arith, arriving_bounds most e limit b)
+
+  module _ (k : Cursor ℕ) where
+    pub on_refused : (way : Way) (e : WalkError) → bounds_of way s ≡ Err e → told s k (Err e) ≡ step_on way s k
+    unfolding bounds_of step_on
+    on_refused (Finished end) e b =
+        by_cases (dec_lt (length s) end)
+        (λ h. let z : ShortBuffer ≡ e = let y = lt-ltb _ _ h in cc in rw (sym z, finished_refuses k s end h))
+        (λ h. absurd (let z : ◌≡◌ {A = ℕ} 0 1 = let y = le-ltb (length s) end (omega arith) in cc in omega arith))
+    on_refused (Arriving most) e b =
+        by_cases (dec_lt most (length s))
+        (λ h. let z : OverLimit ≡ e = let y = lt-ltb _ _ h in cc in rw (sym z, arriving_refuses k most s h))
+        (λ h. absurd (let z : ◌≡◌ {A = ℕ} 0 1 = let y = le-ltb most (length s) (omega arith) in cc in omega arith))
+
+    -- inside its bounds a step is what the turns lead to
+    pub on_found : (way : Way) (e limit : ℕ) → bounds_of way s ≡ Ok (e, limit) → (r : Klv) → walked limit s e k.at ≡ Found r → step_on way s k ≡ found (counted (last_on k) (item 16 s r)) (cursor (past r) (past r))
+    unfolding step_on rest_of
+    on_found (Finished end) e limit b r w = let x = finished_bounds end e limit b in finished-counts k s end x.0 r (rw (sym x.1, sym x.2) at w)
+    on_found (Arriving most) e limit b r w = let x = arriving_bounds most e limit b in arriving-counts k most s x.0 r (rw (sym x.1, sym x.2) at w)
+
+    pub on_stopped : (way : Way) (e limit : ℕ) → bounds_of way s ≡ Ok (e, limit) → (q : ℕ) → walked limit s e k.at ≡ Stopped q → step_on way s k ≡ nothing (cursor q (last_on k))
+    unfolding step_on rest_of
+    on_stopped (Finished end) e limit b q w = let x = finished_bounds end e limit b in finished_rests k s end x.0 q (rw (sym x.1, sym x.2) at w)
+    on_stopped (Arriving most) e limit b q w = let x = arriving_bounds most e limit b in arriving_rests k most s x.0 q (rw (sym x.1, sym x.2) at w)
+
+    pub on_lost : (way : Way) (e limit : ℕ) → bounds_of way s ≡ Ok (e, limit) → (q : ℕ) → walked limit s e k.at ≡ Lost q → step_on way s k ≡ nothing (cursor (rest_of way s q) (last_on k))
+    unfolding step_on rest_of
+    on_lost (Finished end) e limit b q w = let x = finished_bounds end e limit b in finished_loses k s end x.0 q (rw (sym x.1, sym x.2) at w)
+    on_lost (Arriving most) e limit b q w = let x = arriving_bounds most e limit b in arriving_loses k most s x.0 q (rw (sym x.1, sym x.2) at w)

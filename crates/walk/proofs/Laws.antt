@@ -1,4 +1,5 @@
 -- Laws of `specs/Rules.antt`: its cases, each from facts about numbers, and the view that chooses one. Assumes nothing.
+use Rattle.std.specs.Prelude.{Err, Ok, Result}
 use Prim.Native.Nat.{ℕ, ◌+◌, ◌-◌, ◌≤◌, ◌<◌}
 use mathlib.Core.Path.{◌≡◌, refl}
 use mathlib.Core.List.{List}
@@ -10,8 +11,8 @@ use borrow.Author.Tests.{le-ltb, lt-ltb, le-leb, lt-leb}
 use lib.ListN.{length}
 use Rattle.labels.specs.Label.{key_at}
 use Rattle.lengths.specs.declared.Field.{Field}
-use Rattle.lengths.specs.declared.Length.{Length}
-use Rattle.lengths.specs.declared.Length.TheVariants.{Is, Cut, None}
+use Rattle.lengths.specs.declared.NoLength.{NoLength}
+use Rattle.lengths.specs.declared.NoLength.TheVariants.{Cut, Invalid}
 use Rattle.lengths.specs.Length.{length_at}
 use Rattle.lengths.proofs.Laws.{taken}
 use Rattle.klv.specs.declared.Klv.{Klv}
@@ -31,15 +32,15 @@ module _ (limit : ℕ) (s : List ℕ) (e p : ℕ) where
     rule_no_key k = simp (le-ltb _ _ h, k)
 
     module _ (k : key_at s p ≡ true) where
-      pub rule_cut : length_at s (p + 16) ≡ Cut → rules limit s e p ≡ Stop
+      pub rule_cut : length_at s (p + 16) ≡ Err Cut → rules limit s e p ≡ Stop
       unfolding rules by_length
       rule_cut l = simp (le-ltb _ _ h, k, l)
 
-      pub rule_none : length_at s (p + 16) ≡ None → rules limit s e p ≡ Search (p + 17)
+      pub rule_none : length_at s (p + 16) ≡ Err Invalid → rules limit s e p ≡ Search (p + 17)
       unfolding rules by_length
       rule_none l = simp (le-ltb _ _ h, k, l)
 
-      module _ (f : Field) (l : length_at s (p + 16) ≡ Is f) where
+      module _ (f : Field) (l : length_at s (p + 16) ≡ Ok f) where
         pub rule_record : f.value ≤ e - (p + 16 + f.size) → rules limit s e p ≡ Record (klv 16 p f)
         unfolding rules by_length by_value
         rule_record m = simp (le-ltb _ _ h, k, l, le-leb _ _ m)
@@ -56,13 +57,13 @@ module _ (limit : ℕ) (s : List ℕ) (e p : ℕ) where
 pub data Rule (limit : ℕ) (s : List ℕ) (e p : ℕ) : Turn → Type 0 where
   at-end : e - p < 17 → Rule limit s e p Stop
   no_key : 17 ≤ e - p → key_at s p ≡ false → Rule limit s e p (Search (p + 1))
-  cut_off : 17 ≤ e - p → key_at s p ≡ true → length_at s (p + 16) ≡ Cut → Rule limit s e p Stop
-  no_length : 17 ≤ e - p → key_at s p ≡ true → length_at s (p + 16) ≡ None → Rule limit s e p (Search (p + 17))
-  whole : 17 ≤ e - p → key_at s p ≡ true → (f : Field) → length_at s (p + 16) ≡ Is f → f.value ≤ e - (p + 16 + f.size)
+  cut_off : 17 ≤ e - p → key_at s p ≡ true → length_at s (p + 16) ≡ Err Cut → Rule limit s e p Stop
+  no_length : 17 ≤ e - p → key_at s p ≡ true → length_at s (p + 16) ≡ Err Invalid → Rule limit s e p (Search (p + 17))
+  whole : 17 ≤ e - p → key_at s p ≡ true → (f : Field) → length_at s (p + 16) ≡ Ok f → f.value ≤ e - (p + 16 + f.size)
       → Rule limit s e p (Record (klv 16 p f))
-  waits : 17 ≤ e - p → key_at s p ≡ true → (f : Field) → length_at s (p + 16) ≡ Is f → e - (p + 16 + f.size) < f.value
+  waits : 17 ≤ e - p → key_at s p ≡ true → (f : Field) → length_at s (p + 16) ≡ Ok f → e - (p + 16 + f.size) < f.value
       → p + 16 + f.size + f.value ≤ limit → Rule limit s e p Stop
-  late : 17 ≤ e - p → key_at s p ≡ true → (f : Field) → length_at s (p + 16) ≡ Is f → e - (p + 16 + f.size) < f.value
+  late : 17 ≤ e - p → key_at s p ≡ true → (f : Field) → length_at s (p + 16) ≡ Ok f → e - (p + 16 + f.size) < f.value
       → limit < p + 16 + f.size + f.value → Rule limit s e p (Search (p + 16 + f.size))
 
 pub rule : (limit : ℕ) (s : List ℕ) (e p : ℕ) → Rule limit s e p (rules limit s e p)
@@ -70,15 +71,15 @@ rule limit s e p =
     by_cases (dec_lt (e - p) 17) (λ h. rw (rule_end limit s e p h) (at-end h))
     (λ h. by_key (omega arith) (key_at s p) refl)
   where
-    at_length : 17 ≤ e - p → key_at s p ≡ true → (l : Length) → length_at s (p + 16) ≡ l → Rule limit s e p (rules limit s e p)
-    at_length h k (Is f) l =
+    at_length : 17 ≤ e - p → key_at s p ≡ true → (l : Result Field NoLength) → length_at s (p + 16) ≡ l → Rule limit s e p (rules limit s e p)
+    at_length h k (Ok f) l =
         by_cases (dec_lt (e - (p + 16 + f.size)) f.value)
         (λ m. by_cases (dec_lt limit (p + 16 + f.size + f.value))
         (λ w. rw (rule_late limit s e p h k f l m w) (late h k f l m w))
         (λ w. rw (rule_wait limit s e p h k f l m (omega arith)) (waits h k f l m (omega arith))))
         (λ m. rw (rule_record limit s e p h k f l (omega arith)) (whole h k f l (omega arith)))
-    at_length h k Cut l = rw (rule_cut limit s e p h k l) (cut_off h k l)
-    at_length h k None l = rw (rule_none limit s e p h k l) (no_length h k l)
+    at_length h k (Err Cut) l = rw (rule_cut limit s e p h k l) (cut_off h k l)
+    at_length h k (Err Invalid) l = rw (rule_none limit s e p h k l) (no_length h k l)
 
     by_key : 17 ≤ e - p → (b : Bool) → key_at s p ≡ b → Rule limit s e p (rules limit s e p)
     by_key h true k = at_length h k (length_at s (p + 16)) refl
@@ -116,7 +117,7 @@ rules_record limit s e p r = go (rules limit s e p) (rule limit s e p)
     go t (no_length h k l) x = let z : ◌≡◌ {A = ℕ} 0 1 = cc in omega arith
     go t (whole h k f l m) x = let y : klv 16 p f ≡ r = cc in rw y at (the_fit h f l m)
       where
-        the_fit : 17 ≤ e - p → (f : Field) → length_at s (p + 16) ≡ Is f → f.value ≤ e - (p + 16 + f.size) → Fit s e p (klv 16 p f)
+        the_fit : 17 ≤ e - p → (f : Field) → length_at s (p + 16) ≡ Ok f → f.value ≤ e - (p + 16 + f.size) → Fit s e p (klv 16 p f)
         the_fit h f l m = omega (arith, taken s (p + 16) f l)
     go t (waits h k f l m w) x = let z : ◌≡◌ {A = ℕ} 0 1 = cc in omega arith
     go t (late h k f l m w) x = let z : ◌≡◌ {A = ℕ} 0 1 = cc in omega arith

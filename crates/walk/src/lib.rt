@@ -2,23 +2,16 @@
 // has the bytes that have arrived and a limit. Both are these rules at a place, and a search between places.
 #![tactic(auto)]
 
-ghost use Rattle.std.specs.Prelude.{◌≡◌, ◌≤◌, max, length};
+ghost use Rattle.std.specs.Prelude.{◌≡◌, ◌≤◌, length};
 ghost use Rattle.walk.specs.Rules.{rules};
 ghost use Rattle.walk.specs.declared.Turn.TheVariants as turn;
 ghost use Rattle.walk.specs.Walk.{on_turn, walked};
 ghost use Rattle.walk.specs.Passed.{finished_passing, arriving_passing};
-ghost use Rattle.walk.specs.Told.{cursor_of, told, refusal, step_on, record_step};
+ghost use Rattle.walk.specs.Told.{cursor_of, told, step_on};
+ghost use Rattle.walk.specs.Ways.{bounds_of, rest_of};
 
 use klv::Klv;
-use lengths::Length;
-use parts::{lesser, saturating_sub};
-
-// The larger of two.
-fn larger(a: usize, b: usize) -> usize
-    ensures { result ≡ max a b }
-{
-    if a <= b { b } else { a }
-}
+use lengths::NoLength;
 
 // What the rules say at a place.
 #[derive(Clone, Copy)]
@@ -47,15 +40,15 @@ fn look(s: &[u8], end: usize, limit: usize, p: usize) -> Turn
         return Turn::Search(p + 1);
     }
     let l = lengths::read(s, p + 16);
-    if let Length::Cut = l {
-        return Turn::Stop;
-    }
-    let Length::Is(f) = l else {
+    let Ok(f) = l else {
+        if l == Err(NoLength::Cut) {
+            return Turn::Stop;
+        }
         return Turn::Search(p + 17);
     };
     let v = p + 16 + f.size;
     let n = f.value;
-    if n <= saturating_sub(end, v) as u64 {
+    if n <= end.saturating_sub(v) as u64 {
         return Turn::Record(Klv {
             at: p,
             value: v,
@@ -64,7 +57,7 @@ fn look(s: &[u8], end: usize, limit: usize, p: usize) -> Turn
             shortest: f.shortest,
         });
     }
-    if n <= saturating_sub(limit, v) as u64 {
+    if n <= limit.saturating_sub(v) as u64 {
         return Turn::Stop;
     }
     Turn::Search(v)
@@ -101,11 +94,56 @@ fn searched(s: &[u8], end: usize, limit: usize, from: usize) -> Walked
     }
 }
 
+// Where the turns from a place on lead.
+fn turns(s: &[u8], end: usize, limit: usize, p: usize) -> Walked
+    requires { end ≤ length s.now }
+    ensures { result ≡ walked limit s.now end p }
+{
+    match look(s, end, limit, p) {
+        Turn::Stop => Walked::Stopped(p),
+        Turn::Record(k) => Walked::Found(k),
+        Turn::Search(from) => searched(s, end, limit, from),
+    }
+}
+
+// Why a walk takes no step.
+#[derive(Clone, Copy, Debug, PartialEq, Eq)]
+pub enum WalkError {
+    // 1: the end is larger than the buffer.
+    ShortBuffer,
+    // 2: there are more bytes than the limit.
+    OverLimit,
+}
+
 // Which walk it is: the finished walk up to an end, or the arriving walk within a limit.
-#[derive(Clone, Copy)]
+#[derive(Clone, Copy, Debug, PartialEq, Eq)]
 pub enum Way {
     Finished(usize),
     Arriving(usize),
+}
+
+impl Way {
+    // The end of the bytes that it walks, and the limit within which a value that is missing is waited for: none in a finished walk.
+    pub fn bounds(self, s: &[u8]) -> Result<(usize, usize), WalkError>
+        ensures { result ≡ bounds_of self s.now }
+    {
+        match self {
+            Way::Finished(end) if s.len() < end => Err(WalkError::ShortBuffer),
+            Way::Finished(end) => Ok((end, 0)),
+            Way::Arriving(limit) if limit < s.len() => Err(WalkError::OverLimit),
+            Way::Arriving(limit) => Ok((s.len(), limit)),
+        }
+    }
+
+    // Where it rests after a search from q on that finds no key.
+    fn rest(self, s: &[u8], q: usize) -> usize
+        ensures { result ≡ rest_of self s.now q }
+    {
+        match self {
+            Way::Finished(end) => end.max(q),
+            Way::Arriving(_) => search::wait_from(s, q),
+        }
+    }
 }
 
 // Where a walk stands, and where walking last went on.
@@ -122,82 +160,43 @@ pub enum Step {
     Record(Klv, usize, Cursor),
     // No record: the finished walk is over; the arriving walk waits, and its step is to be made again from this cursor.
     Rests(Cursor),
-    // The end is larger than the buffer, or there are more bytes than the limit.
-    Refused,
-}
-
-// A record, walking having last gone on at `since`; its value ends at `next`, where walking goes on.
-fn found(k: Klv, since: usize, next: usize) -> Step
-    ensures { result ≡ record_step k since next }
-{
-    let passed = saturating_sub(k.at, since);
-    let past = Cursor {
-        at: next,
-        since: next,
-    };
-    Step::Record(k, passed, past)
 }
 
 impl Cursor {
-    // A step of the finished walk: the next record wholly before the end.
-    pub fn step(self, s: &[u8], end: usize) -> Step
-        ensures { told 1 s.now (cursor_of self) result ≡ finished_passing s.now end (cursor_of self) }
+    // A step of either walk.
+    pub fn on(self, s: &[u8], way: Way) -> Result<Step, WalkError>
+        ensures { told s.now (cursor_of self) result ≡ step_on way s.now (cursor_of self) }
     {
-        if s.len() < end {
-            return Step::Refused;
-        }
-        let since = lesser(self.since, self.at);
-        let t = look(s, end, 0, self.at);
-        match t {
-            Turn::Record(k) => found(k, since, k.value + k.len),
-            Turn::Stop => Step::Rests(Cursor { at: self.at, since }),
-            Turn::Search(from) => {
-                let w = searched(s, end, 0, from);
-                match w {
-                    Walked::Found(k) => found(k, since, k.value + k.len),
-                    Walked::Stopped(p) => Step::Rests(Cursor { at: p, since }),
-                    Walked::Lost(q) => {
-                        let at = larger(end, q);
-                        Step::Rests(Cursor { at, since })
-                    }
-                }
+        let (end, limit) = way.bounds(s)?;
+        let since = self.since.min(self.at);
+        match turns(s, end, limit, self.at) {
+            Walked::Found(k) => {
+                let next = k.value + k.len;
+                let past = Cursor {
+                    at: next,
+                    since: next,
+                };
+                Ok(Step::Record(k, k.at.saturating_sub(since), past))
+            }
+            Walked::Stopped(at) => Ok(Step::Rests(Cursor { at, since })),
+            Walked::Lost(q) => {
+                let at = way.rest(s, q);
+                Ok(Step::Rests(Cursor { at, since }))
             }
         }
+    }
+
+    // A step of the finished walk: the next record wholly before the end.
+    pub fn step(self, s: &[u8], end: usize) -> Result<Step, WalkError>
+        ensures { told s.now (cursor_of self) result ≡ finished_passing s.now end (cursor_of self) }
+    {
+        self.on(s, Way::Finished(end))
     }
 
     // A step of the arriving walk: the next record that no later byte, within the limit, can unsay.
-    pub fn arrive(self, a: &[u8], limit: usize) -> Step
-        ensures { told 2 a.now (cursor_of self) result ≡ arriving_passing limit a.now (cursor_of self) }
+    pub fn arrive(self, a: &[u8], limit: usize) -> Result<Step, WalkError>
+        ensures { told a.now (cursor_of self) result ≡ arriving_passing limit a.now (cursor_of self) }
     {
-        if limit < a.len() {
-            return Step::Refused;
-        }
-        let since = lesser(self.since, self.at);
-        let t = look(a, a.len(), limit, self.at);
-        match t {
-            Turn::Record(k) => found(k, since, k.value + k.len),
-            Turn::Stop => Step::Rests(Cursor { at: self.at, since }),
-            Turn::Search(from) => {
-                let w = searched(a, a.len(), limit, from);
-                match w {
-                    Walked::Found(k) => found(k, since, k.value + k.len),
-                    Walked::Stopped(p) => Step::Rests(Cursor { at: p, since }),
-                    Walked::Lost(q) => {
-                        let at = search::wait_from(a, q);
-                        Step::Rests(Cursor { at, since })
-                    }
-                }
-            }
-        }
-    }
-
-    // A step of either walk.
-    pub fn on(self, s: &[u8], way: Way) -> Step
-        ensures { told (refusal way) s.now (cursor_of self) result ≡ step_on way s.now (cursor_of self) }
-    {
-        match way {
-            Way::Finished(end) => self.step(s, end),
-            Way::Arriving(limit) => self.arrive(s, limit),
-        }
+        self.on(a, Way::Arriving(limit))
     }
 }

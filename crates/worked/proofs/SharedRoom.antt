@@ -7,11 +7,11 @@ use Rattle.index.specs.Lists.{good_fields, one, of_few, narrow, last_in, early_b
 use Rattle.index.specs.Index.{written}
 use Rattle.index_layouts.specs.Turning as turning
 use Rattle.shared_index.specs.Rooms.{is_open, is_sound, set_up_of, opened_of, closed_of}
-use Rattle.shared_index.specs.Shared.{looked_as, added_as, find_of, add_of, after_add}
+use Rattle.shared_index.specs.Shared.{added_as, find_of, add_of, after_add}
 use Rattle.worked.specs.SharedRoom.{SharedRoom}
 
 pub shared_room : SharedRoom
-unfolding number_at bytes_of entries good_fields one of_few narrow last_in early_by add_to written turning.in_columns turning.in_rows turning.turned_by is_open is_sound set_up_of opened_of closed_of looked_as added_as find_of add_of after_add
+unfolding number_at bytes_of entries good_fields one of_few narrow last_in early_by add_to written turning.in_columns turning.in_rows turning.turned_by is_open is_sound set_up_of opened_of closed_of added_as find_of add_of after_add
 shared_room = record {
   shares_above = refl;
   set-up = refl;

@@ -14,7 +14,7 @@ use Rattle.written_lengths.specs.Form.{form_of, holds, size_from, shortest_size}
 use Rattle.written_lengths.specs.Wrote.{said, into}
 use Rattle.written_klvs.specs.Klvs.{klv_bytes, item_bytes, in_shortest, rewritten, run_end, all_shortest}
 use Rattle.written_tables.specs.Items.{good_item, local_bytes}
-use Rattle.written_tables.specs.Primer.{all_tags, good_primer, entries_bytes, primer_bytes}
+use Rattle.written_tables.specs.Primer.{good_primer, entries_bytes, primer_bytes}
 use Rattle.written_packs.specs.Packs.{fitting, sum_of, good_pack, pack_bytes}
 use Rattle.worked.specs.Writers.{Lengths, Klvs, Tables, Packs, Writers}
 
@@ -27,7 +27,7 @@ unfolding number_at bytes_of bound_of shortest_of held_at length_by length_at le
 klvs = (refl, refl, refl, refl, refl, refl)
 
 tables : Tables
-unfolding number_at bytes_of later last_of entries_in entry_of good_item local_bytes all_tags good_primer entries_bytes primer_bytes
+unfolding number_at bytes_of later last_of entries_in entry_of good_item local_bytes good_primer entries_bytes primer_bytes
 tables = (refl, refl, refl, refl, refl, refl)
 
 packs : Packs

@@ -6,7 +6,8 @@ use Rattle.klv.specs.Item.{Item}
 use Rattle.records.specs.Passed.{at_first, finished_passed}
 use Rattle.fed_states.specs.declared.State.{State}
 use Rattle.fed_states.specs.State.{opened, shut}
-use Rattle.fed_states.specs.Close.{Rest, close_of}
+use Rattle.fed_states.specs.declared.Rest.{Rest}
+use Rattle.fed_states.specs.Close.{close_of}
 use Rattle.fed_bytes.specs.Feed.{Taken, took, after, feed_of}
 use Rattle.fed_pieces.specs.Pieces.{all, records_of, end_of}
 use Rattle.worked.specs.LengthForms.{label}

@@ -1,15 +1,16 @@
 -- Worked numbers of docs/RULES.md, "L1. How long the length field was".
-use Rattle.std.specs.Prelude.{ℕ, ◌-◌, ◌^◌, ◌≡◌, List, [], ◌∷◌, ◌++◌, Bool, true, false, replicate}
-use Rattle.lengths.specs.declared.Length.{Length}
-use Rattle.lengths.specs.declared.Length.TheVariants.{Is, Cut, None}
+use Rattle.std.specs.Prelude.{ℕ, ◌-◌, ◌^◌, ◌≡◌, List, [], ◌∷◌, ◌++◌, Bool, true, false, replicate, Err, Ok, Result}
+use Rattle.lengths.specs.declared.Field.{Field}
+use Rattle.lengths.specs.declared.NoLength.{NoLength}
+use Rattle.lengths.specs.declared.NoLength.TheVariants.{Cut, Invalid}
 use Rattle.lengths.specs.Length.{length_at}
 use Rattle.klv.specs.Item.{item}
 use Rattle.items.specs.Items.{run_of, items_of}
 use Rattle.records.specs.Records.{finished}
 
 -- a length: its number, its bytes, shortest or not
-abbrev pub is : ℕ → ℕ → Bool → Length
-is value size shortest = Is (record { value = value; size = size; shortest = shortest })
+abbrev pub is : ℕ → ℕ → Bool → Result Field NoLength
+is value size shortest = Ok (record { value = value; size = size; shortest = shortest })
 
 abbrev pub LengthForms : Type 0
 LengthForms =
@@ -25,8 +26,8 @@ LengthForms =
     × (length_at (0x88 ∷ 0x00 ∷ replicate 7 0xff) 0 ≡ is (2 ^ 56 - 1) 9 false)
     × (length_at (0x88 ∷ 0x01 ∷ replicate 7 0x00) 0 ≡ is (2 ^ 56) 9 true)
     × (length_at (0x88 ∷ replicate 8 0xff) 0 ≡ is (2 ^ 64 - 1) 9 true)
-    × (length_at (0x89 ∷ []) 0 ≡ None)
-    × (length_at (0x81 ∷ []) 0 ≡ Cut)
+    × (length_at (0x89 ∷ []) 0 ≡ Err Invalid)
+    × (length_at (0x81 ∷ []) 0 ≡ Err Cut)
 
 -- a label by its byte 7, and a file: a byte, a record whose length is `02`, one whose length is `8100`
 abbrev pub label : ℕ → List ℕ

@@ -1,14 +1,11 @@
 -- The worked numbers of docs/RULES.md, "L11. Two uploads, one index room".
-use Rattle.std.specs.Prelude.{ℕ, ◌≡◌, Bool, true, false, List, ◌++◌, replicate}
-use Rattle.index.specs.declared.Entry.{Entry}
+use Rattle.std.specs.Prelude.{ℕ, ◌≡◌, Bool, true, false, List, ◌++◌, replicate, Some, None, Ok, Err}
 use Rattle.index.specs.declared.Layout.TheVariants.{Rows, Columns}
 use Rattle.index.specs.Lists.{found_at}
 use Rattle.index_layouts.specs.Turning.{turned}
 use Rattle.shared_index.specs.declared.Room.{Room}
-use Rattle.shared_index.specs.declared.SetUp.TheVariants as setUp
-use Rattle.shared_index.specs.declared.Changed.TheVariants as changedTo
-use Rattle.shared_index.specs.declared.SharedAdded.TheVariants as added
-use Rattle.shared_index.specs.declared.SharedLooked.TheVariants as looked
+use Rattle.index.specs.declared.IndexError.TheVariants.{Short, Field, Order, Full}
+use Rattle.shared_index.specs.declared.SharedError.TheVariants.{Index, NoFile, Shares}
 use Rattle.shared_index.specs.Rooms.{set_up_of, opened_of, closed_of}
 use Rattle.shared_index.specs.Shared.{find_of, add_of, after_add}
 use Rattle.worked.specs.Indexes.{entry, one, two, one_row, two_row}
@@ -22,33 +19,33 @@ abbrev pub buffer : List ℕ
 buffer = one_row ++ (two_row ++ (replicate 16 0 ++ one_row))
 
 pub record SharedRoom : Type 0 where
-  pub shares_above : set_up_of 4 3 2 ≡ setUp.Shares
-  pub set-up : set_up_of 4 1 2 ≡ setUp.Done (room 0 0 false false)
+  pub shares_above : set_up_of 4 3 2 ≡ Err Shares
+  pub set-up : set_up_of 4 1 2 ≡ Ok (room 0 0 false false)
   -- opening and closing
-  pub opened : opened_of (room 0 0 false false) 0 ≡ changedTo.Done (room 0 0 true false)
-  pub twice : opened_of (room 0 0 true false) 0 ≡ changedTo.NoFile
-  pub no_such_file : opened_of (room 0 0 true false) 2 ≡ changedTo.NoFile
-  pub closed : closed_of (room 2 2 true true) 0 ≡ changedTo.Done (room 0 2 false true)
-  pub not_open : closed_of (room 0 2 false true) 0 ≡ changedTo.NoFile
+  pub opened : opened_of (room 0 0 false false) 0 ≡ Ok (room 0 0 true false)
+  pub twice : opened_of (room 0 0 true false) 0 ≡ Err NoFile
+  pub no_such_file : opened_of (room 0 0 true false) 2 ≡ Err NoFile
+  pub closed : closed_of (room 2 2 true true) 0 ≡ Ok (room 0 2 false true)
+  pub not_open : closed_of (room 0 2 false true) 0 ≡ Err NoFile
   -- 19 before 15
-  pub not-added : add_of Rows buffer (room 0 0 true false) 1 (entry 0 0 0 0) ≡ added.NoFile
-  pub third-file : add_of Rows buffer (room 0 0 true false) 2 (entry 0 1 0 0) ≡ added.NoFile
-  pub bad_field : add_of Rows buffer (room 0 0 true false) 0 (entry 0 0 0 0) ≡ added.Field
+  pub not-added : add_of Rows buffer (room 0 0 true false) 1 (entry 0 0 0 0) ≡ Err NoFile
+  pub third-file : add_of Rows buffer (room 0 0 true false) 2 (entry 0 1 0 0) ≡ Err NoFile
+  pub bad_field : add_of Rows buffer (room 0 0 true false) 0 (entry 0 0 0 0) ≡ Err (Index Field)
   -- file 0 above its share: two entries, and not the third, though two are free
-  pub second_of_0 : add_of Rows buffer (room 1 0 true false) 0 two ≡ added.Done (room 2 0 true false)
-  pub third_of_0 : add_of Rows buffer (room 2 0 true false) 0 (entry 38 1 0 0) ≡ added.Full
-  pub overlapping : add_of Rows buffer (room 2 0 true false) 0 (entry 19 1 0 0) ≡ added.Order
+  pub second_of_0 : add_of Rows buffer (room 1 0 true false) 0 two ≡ Ok (room 2 0 true false)
+  pub third_of_0 : add_of Rows buffer (room 2 0 true false) 0 (entry 38 1 0 0) ≡ Err (Index Full)
+  pub overlapping : add_of Rows buffer (room 2 0 true false) 0 (entry 19 1 0 0) ≡ Err (Index Order)
   -- file 1 below its share, and from the last entry down
-  pub first_of_1 : add_of Rows (one_row ++ (two_row ++ replicate 32 0)) (room 2 0 true true) 1 one ≡ added.Done (room 2 1 true true)
+  pub first_of_1 : add_of Rows (one_row ++ (two_row ++ replicate 32 0)) (room 2 0 true true) 1 one ≡ Ok (room 2 1 true true)
   pub last_row : after_add Rows (one_row ++ (two_row ++ replicate 32 0)) (room 2 0 true true) 1 one ≡ buffer
-  pub third_of_1 : add_of Rows buffer (room 2 2 true true) 1 (entry 38 1 0 0) ≡ added.Full
+  pub third_of_1 : add_of Rows buffer (room 2 2 true true) 1 (entry 38 1 0 0) ≡ Err (Index Full)
   -- once 0 is closed, all but its share is given out
-  pub after-closing : add_of Rows buffer (room 0 2 false true) 1 (entry 38 1 0 0) ≡ added.Done (room 0 3 false true)
-  pub share-kept : add_of Rows buffer (room 0 3 false true) 1 (entry 38 1 0 0) ≡ added.Full
+  pub after-closing : add_of Rows buffer (room 0 2 false true) 1 (entry 38 1 0 0) ≡ Ok (room 0 3 false true)
+  pub share-kept : add_of Rows buffer (room 0 3 false true) 1 (entry 38 1 0 0) ≡ Err (Index Full)
   -- each file is asked for its own
-  pub found_in_0 : find_of Rows buffer (room 2 1 true true) 0 20 ≡ looked.At (found_at 1 two)
-  pub found_in_1 : find_of Rows buffer (room 2 1 true true) 1 20 ≡ looked.Nothing
-  pub in-columns : find_of Columns (turned Columns buffer) (room 2 1 true true) 1 19 ≡ looked.At (found_at 0 one)
-  pub asked_of_none : find_of Rows buffer (room 2 1 true true) 2 19 ≡ looked.NoFile
+  pub found_in_0 : find_of Rows buffer (room 2 1 true true) 0 20 ≡ Ok (Some (found_at 1 two))
+  pub found_in_1 : find_of Rows buffer (room 2 1 true true) 1 20 ≡ Ok None
+  pub in-columns : find_of Columns (turned Columns buffer) (room 2 1 true true) 1 19 ≡ Ok (Some (found_at 0 one))
+  pub asked_of_none : find_of Rows buffer (room 2 1 true true) 2 19 ≡ Err NoFile
   -- a room that states more than the buffer holds
-  pub made_up : find_of Rows buffer (room 3 2 true true) 0 19 ≡ looked.Short
+  pub made_up : find_of Rows buffer (room 3 2 true true) 0 19 ≡ Err (Index Short)

@@ -1,11 +1,11 @@
 -- Worked numbers of docs/RULES.md, "L8. Writers".
-use Rattle.std.specs.Prelude.{ℕ, ◌^◌, ◌≡◌, List, [], ◌∷◌, ◌++◌, true, false, length, replicate}
+use Rattle.std.specs.Prelude.{ℕ, ◌^◌, ◌≡◌, List, [], ◌∷◌, ◌++◌, true, false, length, replicate, Ok, Err}
 use Rattle.parts.specs.Answer.{is}
 use Rattle.canon_values.specs.declared.Value.TheVariants.{Nothing, Code, Whole}
 use Rattle.canon_packs.specs.Camera.{camera_of}
 use Rattle.items.specs.Items.{run_of}
 use Rattle.primer.specs.Primer.{entry_of}
-use Rattle.written_lengths.specs.declared.Written.TheVariants.{Done, Field, Longer}
+use Rattle.written_lengths.specs.declared.WriteError.TheVariants.{Field, Longer}
 use Rattle.written_lengths.specs.Form.{form_of, holds, shortest_size}
 use Rattle.written_lengths.specs.Wrote.{said, into}
 use Rattle.written_klvs.specs.Klvs.{klv_bytes, rewritten, run_end, all_shortest}
@@ -27,11 +27,11 @@ Lengths =
     × (form_of (shortest_size (2 ^ 56)) (2 ^ 56) ≡ 0x88 ∷ 0x01 ∷ replicate 7 0x00)
     × (form_of 3 5 ≡ 0x82 ∷ 0x00 ∷ 0x05 ∷ [])
     × (form_of 9 0 ≡ 0x88 ∷ replicate 8 0x00)
-    × (said (holds 1 128) 1 0 9 ≡ Field)
-    × (said (holds 0 0) 0 0 9 ≡ Field)
-    × (said (holds 10 0) 10 0 0 ≡ Field)
-    × (said (holds 2 128) 2 0 1 ≡ Longer 2)
-    × (said (holds 2 128) 2 1 3 ≡ Done 3)
+    × (said (holds 1 128) 1 0 9 ≡ Err Field)
+    × (said (holds 0 0) 0 0 9 ≡ Err Field)
+    × (said (holds 10 0) 10 0 0 ≡ Err Field)
+    × (said (holds 2 128) 2 0 1 ≡ Err (Longer 2))
+    × (said (holds 2 128) 2 1 3 ≡ Ok 3)
     × (into (holds 2 128) (form_of 2 128) 1 (replicate 4 0x77) ≡ 0x77 ∷ 0x81 ∷ 0x80 ∷ 0x77 ∷ [])
     × (into (holds 2 128) (form_of 2 128) 3 (replicate 4 0x77) ≡ replicate 4 0x77)
 
@@ -79,7 +79,7 @@ Packs =
     × (good_pack 2 (1 ∷ 3 ∷ []) ≡ false)
     × (good_pack 0 [] ≡ false)
     × (good_pack 21 [] ≡ false)
-    × (said (good_pack 2 (1 ∷ 3 ∷ 1 ∷ [])) 5 0 4 ≡ Longer 5)
+    × (said (good_pack 2 (1 ∷ 3 ∷ 1 ∷ [])) 5 0 4 ≡ Err (Longer 5))
 
 abbrev pub Writers : Type 0
 Writers = Lengths × Klvs × Tables × Packs

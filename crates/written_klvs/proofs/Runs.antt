@@ -1,4 +1,5 @@
 -- A run by its steps: its items, its end, and the bytes of its shortest form. Assumes nothing.
+use Rattle.std.specs.Prelude.{Ok}
 use Prim.Native.Nat.{ℕ, ◌+◌, ◌≤◌}
 use mathlib.Core.Path.{◌≡◌, refl, ap, ◌∙◌}
 use mathlib.Core.List.{List, [], ◌∷◌}
@@ -10,7 +11,6 @@ use Rattle.steps.specs.Told.{Told, found, nothing}
 use Rattle.steps.specs.Listed.{onward, end_from}
 use Rattle.steps.proofs.Laws.{ended}
 use Rattle.lengths.specs.declared.Field.{Field}
-use Rattle.lengths.specs.declared.Length.TheVariants.{Is}
 use Rattle.lengths.specs.Length.{length_at}
 use Rattle.lengths.proofs.Laws.{taken}
 use Rattle.klv.specs.Item.{Item}
@@ -44,7 +44,7 @@ klv-sixteen key size value h = klv-length key size value ∙ rw h (omega arith)
 -- Where a KLV of the run stands at p: its length field, and what is known of it
 pub record Here (s : List ℕ) (p : ℕ) (f : Field) : Type 0 where
   pub start : p + 16 ≤ length s
-  pub field : length_at s (p + 16) ≡ Is f
+  pub field : length_at s (p + 16) ≡ Ok f
   pub least : 1 ≤ f.size
   pub most : f.size ≤ 9
   pub there : p + 16 + f.size + f.value ≤ length s

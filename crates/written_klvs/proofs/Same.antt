@@ -1,4 +1,5 @@
 -- A run in shortest form has the run's own bytes exactly where each length is read as shortest. Assumes nothing.
+use Rattle.std.specs.Prelude.{Ok}
 use Prim.Native.Nat.{ℕ, zero, suc, ◌+◌, ◌-◌, ◌≤◌, ◌<◌}
 use mathlib.Core.Path.{◌≡◌, refl, sym, ap, ◌∙◌}
 use mathlib.Core.List.{List, [], ◌∷◌, ◌++◌}
@@ -10,7 +11,6 @@ use lib.Seq.{take-add, drop-drop, drop-append_seam}
 use Rattle.parts.specs.Bytes.{Bytes}
 use Rattle.written_numbers.proofs.Stores.{part_is, stands_left, stands_right}
 use Rattle.lengths.specs.declared.Field.{Field}
-use Rattle.lengths.specs.declared.Length.TheVariants.{Is}
 use Rattle.items.specs.Items.{run_of}
 use Rattle.written_lengths.specs.Form.{form_of, shortest_size, told}
 use Rattle.written_lengths.proofs.Both.{left, right, both}
@@ -81,7 +81,7 @@ module _ (s : List ℕ) (b : Bytes s) (p : ℕ) (f : Field) (w : Here s p f) whe
       let same : told (shortest_size v) v ≡ f = is_same f (sym reads ∙ w.field) in
       sym (ap (λ (g : Field). g.shortest) same) ∙ eq-eqb (shortest_size v) (shortest_size v) refl
     where
-      is_same : {a : Field} (c : Field) → Is a ≡ Is c → a ≡ c
+      is_same : {a : Field} (c : Field) → Ok a ≡ Ok c → a ≡ c
       is_same c x = cc
 
 -- the claim from p on

@@ -8,9 +8,8 @@ ghost use Rattle.written_lengths.specs.Wrote.{Wrote};
 ghost use Rattle.written_klvs.specs.Klvs.{klv_bytes, rewritten};
 
 use items::{Run, RunNext};
-use parts::saturating_sub;
 use text::put_all;
-use written_lengths::{Written, holds, put_length, shortest};
+use written_lengths::{WriteError, holds, place_behind, put_form, shortest};
 
 // Writes a KLV where there is room for it, its length in a form that holds it.
 fn put_parts(label: &[u8], size: usize, value: &[u8], out: &mut [u8], at: usize)
@@ -18,34 +17,27 @@ fn put_parts(label: &[u8], size: usize, value: &[u8], out: &mut [u8], at: usize)
     ensures { out.new ≡ sets out.old at (klv_bytes label.now size value.now) }
 {
     put_all(out, at, label);
-    let after = at + 16;
-    put_length(value.len() as u64, size, out, after);
-    let place = after + size;
-    put_all(out, place, value);
-}
-
-// The same with a label that is known to have 16 bytes.
-fn put_labelled(label: &[u8], size: usize, value: &[u8], out: &mut [u8], at: usize) -> Written
-    requires { length label.now ≡ 16 }
-    ensures { Wrote (holds size (length value.now)) (klv_bytes label.now size value.now) at out.old result out.new }
-{
-    if !holds(size, value.len() as u64) {
-        return Written::Field;
-    }
-    let needed = 16 + size + value.len();
-    if saturating_sub(out.len(), at) < needed {
-        return Written::Longer(needed);
-    }
-    put_parts(label, size, value, out, at);
-    let next = at + needed;
-    Written::Done(next)
+    put_form(value.len() as u64, size, out, at + 16);
+    put_all(out, at + 16 + size, value);
 }
 
 // Writes a KLV at a place: its label, its length in so many bytes, its value.
-pub fn put_klv(label: &[u8; 16], size: usize, value: &[u8], out: &mut [u8], at: usize) -> Written
+pub fn put_klv(
+    label: &[u8; 16],
+    size: usize,
+    value: &[u8],
+    out: &mut [u8],
+    at: usize,
+) -> Result<usize, WriteError>
     ensures { Wrote (holds size (length value.now)) (klv_bytes label.now size value.now) at out.old result out.new }
 {
-    put_labelled(label, size, value, out, at)
+    if !holds(size, value.len() as u64) {
+        return Err(WriteError::Field);
+    }
+    let needed = 16 + size + value.len();
+    let next = place_behind(out.len(), at, needed)?;
+    put_parts(label, size, value, out, at);
+    Ok(next)
 }
 
 // How long a run is in shortest form.
@@ -87,13 +79,13 @@ fn put_run(s: &[u8], out: &mut [u8])
 }
 
 // Writes the KLVs of a run at the start of out, each length in its shortest form.
-pub fn rewrite(s: &[u8], out: &mut [u8]) -> Written
+pub fn rewrite(s: &[u8], out: &mut [u8]) -> Result<usize, WriteError>
     ensures { Wrote true (rewritten s.now) 0 out.old result out.new }
 {
     let n = length_of(s);
     if out.len() < n {
-        return Written::Longer(n);
+        return Err(WriteError::Longer(n));
     }
     put_run(s, out);
-    Written::Done(n)
+    Ok(n)
 }

@@ -1,4 +1,5 @@
 -- A length that was written reads as that number in that size, and a shortest one that was read has the bytes of its form. Assumes nothing.
+use Rattle.std.specs.Prelude.{Ok, Result}
 use Prim.Native.Nat.{ℕ, zero, suc, ◌+◌, ◌-◌, ◌^◌, ◌≤◌, ◌<◌}
 use mathlib.Core.Path.{◌≡◌, refl, sym, ap, ◌∙◌}
 use mathlib.Core.List.{List, [], ◌∷◌}
@@ -16,8 +17,7 @@ use Rattle.parts.proofs.Numbers.{number-below}
 use Rattle.written_numbers.proofs.Stores.{Stands, part_is, stands_right, stored}
 use Rattle.written_numbers.proofs.Written.{bytes-length, stands_number, bytes_of_number}
 use Rattle.lengths.specs.declared.Field.{Field}
-use Rattle.lengths.specs.declared.Length.{Length}
-use Rattle.lengths.specs.declared.Length.TheVariants.{Is}
+use Rattle.lengths.specs.declared.NoLength.{NoLength}
 use Rattle.lengths.specs.Length.{bound_of, field, length_at}
 use Rattle.lengths.proofs.Laws.{taken, shortest_eighty, shortest_else, short_read, more, held, Case, c_past, c_short, c_none, c_cut, c_long, case}
 use Rattle.written_lengths.specs.Form.{form_of, shortest_size, told}
@@ -45,7 +45,7 @@ form_more (suc (suc n)) v o at h =
     rw (z, y)
 
 -- where the form of a number stands, that length is read
-pub read_form : (t : List ℕ) (at size v : ℕ) → size ≤ 9 → v < bound_of size → Stands (form_of size v) t at → length_at t at ≡ Is (told size v)
+pub read_form : (t : List ℕ) (at size v : ℕ) → size ≤ 9 → v < bound_of size → Stands (form_of size v) t at → length_at t at ≡ Ok (told size v)
 unfolding form_of
 read_form t at zero v h k w = absurd (omega (arith, bound_zero))
 read_form t at (suc zero) v h k w =
@@ -138,17 +138,17 @@ read_long s at (suc n) b g m h =
       );
     }
 
-pub read_is : (s : List ℕ) (at : ℕ) (f : Field) → Bytes s → length_at s at ≡ Is f → Read s at f
+pub read_is : (s : List ℕ) (at : ℕ) (f : Field) → Bytes s → length_at s at ≡ Ok f → Read s at f
 read_is s at f b = go (length_at s at) (case s at)
   where
-    go : (l : Length) → Case s at l → l ≡ Is f → Read s at f
+    go : (l : Result Field NoLength) → Case s at l → l ≡ Ok f → Read s at f
     go l (c_past h) e = absurd (let z : ◌≡◌ {A = ℕ} 0 1 = cc in omega arith)
     go l (c_short h k) e = let z : field (get_or s at 0) 1 (get_or s at 0) ≡ f = cc in rw z at (read_short s at h k)
     go l (c_none h k) e = absurd (let z : ◌≡◌ {A = ℕ} 0 1 = cc in omega arith)
     go l (c_cut n g m h k) e = absurd (let z : ◌≡◌ {A = ℕ} 0 1 = cc in omega arith)
     go l (c_long n g m h) e = let z : field (get_or s at 0) (1 + n) (number_at s (at + 1) n) ≡ f = cc in rw z at (read_long s at n b g m h)
 
-is_same : {a : Field} (c : Field) → Is a ≡ Is c → a ≡ c
+is_same : {a : Field} (c : Field) → Ok a ≡ Ok c → a ≡ c
 is_same c x = cc
 
 pub lengths_read : LengthsRead

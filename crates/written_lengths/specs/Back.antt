@@ -1,9 +1,8 @@
 -- Lengths that are written and read: docs/RULES.md, "L8. Writers".
-use Rattle.std.specs.Prelude.{ℕ, ◌+◌, ◌≤◌, ◌≡◌, List, true, length, get_or, take, drop}
+use Rattle.std.specs.Prelude.{ℕ, ◌+◌, ◌≤◌, ◌≡◌, List, true, length, get_or, take, drop, Ok}
 use Rattle.std.proofs.lemmas.List.Edits.{sets}
 use Rattle.parts.specs.Bytes.{Bytes}
 use Rattle.lengths.specs.declared.Field.{Field}
-use Rattle.lengths.specs.declared.Length.TheVariants.{Is}
 use Rattle.lengths.specs.Length.{length_at}
 use Rattle.written_lengths.specs.Form.{form_of, holds, shortest_size, told}
 
@@ -11,7 +10,7 @@ use Rattle.written_lengths.specs.Form.{form_of, holds, shortest_size, told}
 abbrev pub LengthsBack : Type 0
 LengthsBack =
     (o : List ℕ) (at size v : ℕ) → holds size v ≡ true → at + size ≤ length o
-    → length_at (sets o at (form_of size v)) at ≡ Is (told size v)
+    → length_at (sets o at (form_of size v)) at ≡ Ok (told size v)
 
 -- what is read as a length is 80h or the form that is written of that number in that size; and it is shortest exactly where its
 -- bytes are those of the shortest form
@@ -21,4 +20,4 @@ pub record Reading (s : List ℕ) (at : ℕ) (f : Field) : Type 0 where
   pub only_so : take f.size (drop at s) ≡ form_of (shortest_size f.value) f.value → f.shortest ≡ true
 
 abbrev pub LengthsRead : Type 0
-LengthsRead = (s : List ℕ) (at : ℕ) (f : Field) → Bytes s → length_at s at ≡ Is f → Reading s at f
+LengthsRead = (s : List ℕ) (at : ℕ) (f : Field) → Bytes s → length_at s at ≡ Ok f → Reading s at f

@@ -3,24 +3,32 @@
 // lent room is less, and a refusal writes nothing.
 #![tactic(auto)]
 
-ghost use Rattle.std.specs.Prelude.{◌≡◌, ◌+◌, ◌≤◌, ◌<◌, length};
+ghost use Rattle.std.specs.Prelude.{◌≡◌, ◌+◌, ◌-◌, ◌≤◌, ◌<◌, length, MatchResult};
 ghost use Rattle.std.proofs.lemmas.List.Edits.{sets};
 ghost use Rattle.lengths.specs.Length.{bound_of};
 ghost use Rattle.written_lengths.specs.Form.{holds, shortest_size, form_of};
 ghost use Rattle.written_lengths.specs.Wrote.{Wrote};
+ghost use Rattle.written_lengths.specs.declared.WriteError.TheVariants.{Longer};
 
-use parts::saturating_sub;
 use written_numbers::put_number;
 
-// What a writer answers.
-#[derive(Clone, Copy)]
-pub enum Written {
-    // It is written, and this is the place behind it.
-    Done(usize),
-    // What is to be written has no such form: refusal 15. Nothing is written.
+// Why a writer refuses: nothing is written then. Else it answers the place behind what it wrote.
+#[derive(Clone, Copy, Debug, PartialEq, Eq)]
+pub enum WriteError {
+    // What is to be written has no such form: refusal 15.
     Field,
-    // It takes so many bytes, and the room has fewer from that place on: refusal 3. Nothing is written.
+    // It takes so many bytes, and the room has fewer from that place on: refusal 3.
     Longer(usize),
+}
+
+// The place behind so many bytes from a place on, in a room of a length that has them.
+pub fn place_behind(room: usize, at: usize, needed: usize) -> Result<usize, WriteError>
+    ensures { MatchResult result (λ next. (needed ≤ room - at) × (next ≡ at + needed)) (λ e. (room - at < needed) × (e ≡ Longer needed)) }
+{
+    if room.saturating_sub(at) < needed {
+        return Err(WriteError::Longer(needed));
+    }
+    Ok(at + needed)
 }
 
 // The numbers that a form of so many bytes holds lie below this.
@@ -28,31 +36,11 @@ fn bound(size: usize) -> u64
     requires { size ≤ 8 }
     ensures { result ≡ bound_of size }
 {
-    if size < 1 {
-        return 0;
+    match size {
+        0 => 0,
+        1 => 0x80,
+        _ => 1 << (8 * (size - 1)),
     }
-    if size < 2 {
-        return 0x80;
-    }
-    if size < 3 {
-        return 0x100;
-    }
-    if size < 4 {
-        return 0x1_0000;
-    }
-    if size < 5 {
-        return 0x100_0000;
-    }
-    if size < 6 {
-        return 0x1_0000_0000;
-    }
-    if size < 7 {
-        return 0x100_0000_0000;
-    }
-    if size < 8 {
-        return 0x1_0000_0000_0000;
-    }
-    0x100_0000_0000_0000
 }
 
 // Whether a size is 1 to 9, and a form of that many bytes holds the number.
@@ -72,18 +60,16 @@ pub fn holds(size: usize, n: u64) -> bool
 pub fn shortest(n: u64) -> usize
     ensures { result ≡ shortest_size n }
 {
-    let mut size = 1;
-    while size < 9 {
+    for size in 1..9 {
         if holds(size, n) {
             return size;
         }
-        size += 1;
     }
-    size
+    9
 }
 
 // Writes the form of so many bytes, which holds the number, where there is room for it.
-fn put_form(n: u64, size: usize, out: &mut [u8], at: usize)
+pub fn put_form(n: u64, size: usize, out: &mut [u8], at: usize)
     requires { (size ≤ 9) × (n < bound_of size) × (at + size ≤ length out.old) }
     ensures { out.new ≡ sets out.old at (form_of size n) }
 {
@@ -97,16 +83,13 @@ fn put_form(n: u64, size: usize, out: &mut [u8], at: usize)
 }
 
 // Writes a number at a place as a length of so many bytes.
-pub fn put_length(n: u64, size: usize, out: &mut [u8], at: usize) -> Written
+pub fn put_length(n: u64, size: usize, out: &mut [u8], at: usize) -> Result<usize, WriteError>
     ensures { Wrote (holds size n) (form_of size n) at out.old result out.new }
 {
     if !holds(size, n) {
-        return Written::Field;
+        return Err(WriteError::Field);
     }
-    if saturating_sub(out.len(), at) < size {
-        return Written::Longer(size);
-    }
+    let next = place_behind(out.len(), at, size)?;
     put_form(n, size, out, at);
-    let next = at + size;
-    Written::Done(next)
+    Ok(next)
 }

@@ -10,10 +10,8 @@ fn put_whole(out: &mut [u8], at: usize, n: usize, value: u64)
     requires { at + n ≤ length out.old }
     ensures { out.new ≡ sets out.old at (bytes_of n value) }
 {
-    let mut i = n;
     let mut v = value;
-    while 0 < i {
-        i -= 1;
+    for i in (0..n).rev() {
         out[at + i] = (v % 256) as u8;
         v /= 256;
     }
@@ -23,9 +21,7 @@ fn put_whole(out: &mut [u8], at: usize, n: usize, value: u64)
 pub fn put_number(out: &mut [u8], at: usize, n: usize, value: u64)
     ensures { out.new ≡ placed out.old at (bytes_of n value) }
 {
-    if at <= out.len() {
-        if n <= out.len() - at {
-            put_whole(out, at, n, value);
-        }
+    if at <= out.len() && n <= out.len() - at {
+        put_whole(out, at, n, value);
     }
 }

@@ -1,14 +1,7 @@
 -- A pack that is made of its raw fields: docs/RULES.md, "L8. Writers".
-use Rattle.std.specs.Prelude.{ℕ, ◌+◌, ◌*◌, ◌^◌, List, [], ◌∷◌, Bool, true, false, ◌&&◌, ltb, leb, get_or}
+use Rattle.std.specs.Prelude.{ℕ, ◌+◌, ◌*◌, ◌^◌, List, [], ◌∷◌, Bool, true, false, ◌&&◌, ltb, leb}
 use Rattle.written_numbers.specs.Number.{bytes_of}
 use Rattle.canon_groups.specs.Fields.{fields_of}
-
--- of one field of the table, what it is counted in and what it lies below
-unfoldable pub unit_at : ℕ → ℕ → ℕ
-unit_at id i = 2 ^ (get_or (fields_of id) i (0, 0)).0
-
-unfoldable pub bound_at : ℕ → ℕ → ℕ
-bound_at id i = 2 ^ (get_or (fields_of id) i (0, 0)).1
 
 -- as many numbers as fields, each below its bound
 unfoldable pub fitting : List (ℕ × ℕ) → List ℕ → Bool

@@ -2,126 +2,60 @@
 // are read; bits of no field are 0.
 #![tactic(auto)]
 
-ghost use Rattle.std.specs.Prelude.{◌≡◌, true, ◌^◌, ◌≤◌, ◌<◌, length};
+ghost use Rattle.std.specs.Prelude.{◌≡◌, true, ◌≤◌};
 ghost use Rattle.canon_groups.specs.Fields.{fields_of};
 ghost use Rattle.written_lengths.specs.Wrote.{Wrote};
-ghost use Rattle.written_packs.specs.Packs.{unit_at, bound_at, fitting, sum_of, good_pack, pack_bytes};
+ghost use Rattle.written_packs.specs.Packs.{fitting, sum_of, good_pack, pack_bytes};
 
-use parts::saturating_sub;
-use written_lengths::Written;
+use written_lengths::{WriteError, place_behind};
 use written_numbers::put_number;
 
-// By id from 0 on: how many fields a pack has.
-const COUNTS: [u8; 21] =
-    *b"\x00\x02\x03\x02\x03\x02\x05\x04\x03\x01\x02\x04\x01\x01\x01\x01\x01\x01\x02\x01\x01";
+// By id from 0 on, the fields of a pack, the highest first: each one's lowest bit, and how many bits it has.
+const FIELDS: [&[(u32, u32)]; 21] = [
+    &[],
+    &[(16, 16), (0, 16)],
+    &[(30, 2), (28, 2), (27, 1)],
+    &[(16, 16), (0, 16)],
+    &[(30, 2), (8, 16), (0, 8)],
+    &[(16, 16), (0, 16)],
+    &[(29, 3), (24, 5), (23, 1), (8, 15), (0, 8)],
+    &[(31, 1), (24, 7), (16, 8), (12, 4)],
+    &[(30, 2), (24, 4), (16, 1)],
+    &[(0, 32)],
+    &[(16, 16), (0, 16)],
+    &[(31, 1), (28, 3), (16, 12), (0, 16)],
+    &[(0, 32)],
+    &[(0, 32)],
+    &[(16, 16)],
+    &[(16, 16)],
+    &[(0, 32)],
+    &[(0, 32)],
+    &[(31, 1), (0, 16)],
+    &[(0, 32)],
+    &[(24, 2)],
+];
 
-// And five places each: a field's lowest bit, the highest field first.
-const LOWEST: [u8; 105] = *b"\
-    \x00\x00\x00\x00\x00\
-    \x10\x00\x00\x00\x00\
-    \x1e\x1c\x1b\x00\x00\
-    \x10\x00\x00\x00\x00\
-    \x1e\x08\x00\x00\x00\
-    \x10\x00\x00\x00\x00\
-    \x1d\x18\x17\x08\x00\
-    \x1f\x18\x10\x0c\x00\
-    \x1e\x18\x10\x00\x00\
-    \x00\x00\x00\x00\x00\
-    \x10\x00\x00\x00\x00\
-    \x1f\x1c\x10\x00\x00\
-    \x00\x00\x00\x00\x00\
-    \x00\x00\x00\x00\x00\
-    \x10\x00\x00\x00\x00\
-    \x10\x00\x00\x00\x00\
-    \x00\x00\x00\x00\x00\
-    \x00\x00\x00\x00\x00\
-    \x1f\x00\x00\x00\x00\
-    \x00\x00\x00\x00\x00\
-    \x18\x00\x00\x00\x00";
-
-// And how many bits it has.
-const WIDTHS: [u8; 105] = *b"\
-    \x00\x00\x00\x00\x00\
-    \x10\x10\x00\x00\x00\
-    \x02\x02\x01\x00\x00\
-    \x10\x10\x00\x00\x00\
-    \x02\x10\x08\x00\x00\
-    \x10\x10\x00\x00\x00\
-    \x03\x05\x01\x0f\x08\
-    \x01\x07\x08\x04\x00\
-    \x02\x04\x01\x00\x00\
-    \x20\x00\x00\x00\x00\
-    \x10\x10\x00\x00\x00\
-    \x01\x03\x0c\x10\x00\
-    \x20\x00\x00\x00\x00\
-    \x20\x00\x00\x00\x00\
-    \x10\x00\x00\x00\x00\
-    \x10\x00\x00\x00\x00\
-    \x20\x00\x00\x00\x00\
-    \x20\x00\x00\x00\x00\
-    \x01\x10\x00\x00\x00\
-    \x20\x00\x00\x00\x00\
-    \x02\x00\x00\x00\x00";
-
-// A power of two.
-fn power(k: usize) -> u64
-    requires { k ≤ 32 }
-    ensures { result ≡ 2 ^ k }
-{
-    let mut v = 1;
-    let mut i = 0;
-    while i < k {
-        v *= 2;
-        i += 1;
-    }
-    v
-}
-
-// How many fields a pack has.
-fn count(id: usize) -> usize
+// The fields of a pack.
+fn fields_of(id: usize) -> &'static [(u32, u32)]
     requires { id ≤ 20 }
-    ensures { result ≡ length (fields_of id) }
+    ensures { result.now ≡ fields_of id }
 {
-    COUNTS[id] as usize
+    FIELDS[id]
 }
 
-// What a field of it is counted in.
-fn unit(id: usize, i: usize) -> u64
-    requires { (id ≤ 20) × (i < length (fields_of id)) }
-    ensures { result ≡ unit_at id i }
-{
-    let k = 5 * id + i;
-    power(LOWEST[k] as usize)
-}
-
-// What a field of it lies below.
-fn bound(id: usize, i: usize) -> u64
-    requires { (id ≤ 20) × (i < length (fields_of id)) }
-    ensures { result ≡ bound_at id i }
-{
-    let k = 5 * id + i;
-    power(WIDTHS[k] as usize)
-}
-
-// Whether these are as many numbers as it has fields, and each fits.
+// Whether these are as many numbers as a pack has fields, and each fits.
 fn fit(id: usize, fields: &[u64]) -> bool
     requires { id ≤ 20 }
     ensures { result ≡ fitting (fields_of id) fields.now }
 {
-    let n = count(id);
-    if n < fields.len() {
+    let table = fields_of(id);
+    if fields.len() != table.len() {
         return false;
     }
-    if fields.len() < n {
-        return false;
-    }
-    let mut i = 0;
-    while i < n {
-        let b = bound(id, i);
-        if b <= fields[i] {
+    for (x, &(_, width)) in fields.iter().zip(table) {
+        if 1 << width <= *x {
             return false;
         }
-        i += 1;
     }
     true
 }
@@ -131,39 +65,22 @@ fn sum(id: usize, fields: &[u64]) -> u64
     requires { (1 ≤ id) × (id ≤ 20) × (fitting (fields_of id) fields.now ≡ true) }
     ensures { result ≡ sum_of (fields_of id) fields.now }
 {
-    let n = count(id);
-    let mut v = 0;
-    let mut i = 0;
-    while i < n {
-        let u = unit(id, i);
-        let x = fields[i] * u;
-        v += x;
-        i += 1;
+    let mut sum = 0;
+    for (x, &(lowest, _)) in fields.iter().zip(fields_of(id)) {
+        sum += *x << lowest;
     }
-    v
+    sum
 }
 
 // Writes a pack at a place from its raw fields.
-pub fn put_pack(id: u64, fields: &[u64], out: &mut [u8], at: usize) -> Written
+pub fn put_pack(id: u64, fields: &[u64], out: &mut [u8], at: usize) -> Result<usize, WriteError>
     ensures { Wrote (good_pack id fields.now) (pack_bytes id fields.now) at out.old result out.new }
 {
-    if id < 1 {
-        return Written::Field;
+    if id < 1 || 20 < id || !fit(id as usize, fields) {
+        return Err(WriteError::Field);
     }
-    if 20 < id {
-        return Written::Field;
-    }
-    let k = id as usize;
-    if !fit(k, fields) {
-        return Written::Field;
-    }
-    if saturating_sub(out.len(), at) < 5 {
-        return Written::Longer(5);
-    }
-    let v = sum(k, fields);
+    let next = place_behind(out.len(), at, 5)?;
     out[at] = id as u8;
-    let place = at + 1;
-    put_number(out, place, 4, v);
-    let next = at + 5;
-    Written::Done(next)
+    put_number(out, at + 1, 4, sum(id as usize, fields));
+    Ok(next)
 }

@@ -1,4 +1,5 @@
 -- Items that were written are read back, one by one and as a set. Assumes nothing.
+use Rattle.std.specs.Prelude.{Ok}
 use Prim.Native.Nat.{ℕ, ◌+◌, ◌≤◌, ◌<◌}
 use mathlib.Core.Path.{◌≡◌, refl, sym, ap, ◌∙◌}
 use mathlib.Core.List.{List, [], ◌∷◌, ◌++◌}
@@ -13,7 +14,6 @@ use Rattle.parts.specs.Number.{number_at, number_of}
 use Rattle.written_numbers.specs.Number.{bytes_of}
 use Rattle.written_numbers.proofs.Stores.{sets_append, Stands, stands_left, stands_right, stands_part, stored}
 use Rattle.written_numbers.proofs.Written.{bytes-length, stands_number, number_of_bytes}
-use Rattle.lengths.specs.declared.Length.TheVariants.{Is}
 use Rattle.lengths.specs.Length.{held_at, two_field}
 use Rattle.lengths.proofs.Laws.{held}
 use Rattle.items.specs.Items.{length_in, items_of}
@@ -63,7 +63,7 @@ item_back t at tag value g w =
     let size = stands_left (bytes_of 2 (length value)) value body in
     let last = rw (bytes-length 2 (length value)) at (stands_right (bytes_of 2 (length value)) value body) in
     let n : number_at t (at + 2) 2 ≡ length value = stands_number t (at + 2) 2 (length value) size ∙ mod-eq_of_lt (omega arith) in
-    let l : held_at two_field t (at + 2) 2 ≡ Is (two_field (length value)) = held two_field t (at + 2) 2 (omega (arith, last.there)) ∙ rw n in
+    let l : held_at two_field t (at + 2) 2 ≡ Ok (two_field (length value)) = held two_field t (at + 2) 2 (omega (arith, last.there)) ∙ rw n in
     record {
       step = item-whole 2 false t at (omega (arith, last.there)) (two_field (length value)) l (omega (arith, last.there));
       tag_is = ap number_of (rw (bytes-length 2 tag) at (stands_part key)) ∙ number_of_bytes 2 tag ∙ mod-eq_of_lt (omega arith);

@@ -4,12 +4,12 @@ use mathlib.Core.Path.{◌≡◌, refl, sym, ap, ◌∙◌}
 use mathlib.Core.List.{List, [], ◌∷◌, ◌++◌, append_assoc}
 use mathlib.Core.Bool.{Bool, true, false, ◌&&◌}
 use native.Mathlib.Nat.{mod-eq_of_lt}
-use native.Mathlib.Numerals.{add-one}
 use native.Mathlib.Omega.{arith}
 use borrow.Author.Tests.{le-leb, lt-leb, eq-eqb, ne_eqb, leb-true, eqb-true}
 use lib.Dec.{leb, eqb}
-use lib.ListN.{length, get_or, take, drop, length-append, length-take, length-drop, drop_of_length-le}
-use lib.Seq.{sets, length-sets, drop-cons, drop-drop}
+use lib.ListN.{length, get_or, take, drop, length-append, length-take, length-drop}
+use lib.Seq.{sets, length-sets, take-append_seam, drop-append_seam, drop-drop}
+use Rattle.std.proofs.lemmas.List.{nil_from_length}
 use Rattle.parts.specs.Number.{number_at}
 use Rattle.written_numbers.specs.Number.{bytes_of}
 use Rattle.written_numbers.proofs.Stores.{sets_append, Stands, stands_left, stands_right, stands_part}
@@ -71,7 +71,6 @@ good_is tags labels g =
     }
 
 tag_fits : (tags : List ℕ) → all_tags tags ≡ true → (i : ℕ) → i < length tags → get_or tags i 0 < 0x10000
-unfolding all_tags
 tag_fits [] a i h = absurd (omega arith)
 tag_fits (t ∷ more) a zero h = let z = leb-true t 0xffff (left (leb t 0xffff) (all_tags more) a) in omega arith
 tag_fits (t ∷ more) a (suc i) h = tag_fits more (right (leb t 0xffff) (all_tags more) a) i (omega arith)
@@ -123,60 +122,50 @@ module _ (tags labels : List ℕ) (g : good_primer tags labels ≡ true) where
 pub primers_back : PrimersBack
 primers_back tags labels g = record { last = primer_reads tags labels g; label = label_at tags labels g }
 
--- The loop over the tags: those that are left decide
-module _ (tags : List ℕ) (i : ℕ) where
-  pub tags_here : i < length tags → all_tags (drop i tags) ≡ (leb (get_or tags i 0) 0xffff && all_tags (drop (i + 1) tags))
-  unfolding all_tags
-  tags_here h = rw (add-one, drop-cons tags i 0 h)
-
-  pub tags_not : i < length tags → 0xffff < get_or tags i 0 → all_tags (drop i tags) ≡ false
-  tags_not h k = tags_here h ∙ rw (lt-leb (get_or tags i 0) 0xffff k)
-
-  pub tags_on : i < length tags → get_or tags i 0 ≤ 0xffff → all_tags (drop i tags) ≡ all_tags (drop (i + 1) tags)
-  tags_on h k = tags_here h ∙ rw (le-leb (get_or tags i 0) 0xffff k)
-
-  pub tags_end : length tags ≤ i → all_tags (drop i tags) ≡ true
-  unfolding all_tags
-  tags_end h = rw (drop_of_length-le tags {i = i} h)
-
 -- The loop that writes the entries: what was written, and those that are left, is the whole
-pub record Putting (tags labels o₀ : List ℕ) (at : ℕ) (o : List ℕ) (p from i : ℕ) : Type 0 where
-  pub within : i ≤ length tags
+pub record Putting (tags labels o₀ : List ℕ) (at : ℕ) (o : List ℕ) (place : ℕ) (tags_left labels_left : List ℕ) (chunk : ℕ) : Type 0 where
+  pub sixteen_each : chunk ≡ 16
+  pub labelled : length labels_left ≡ 16 * length tags_left
   pub same : length o ≡ length o₀
-  pub place : p ≡ at + 18 * i
-  pub label : from ≡ 16 * i
-  pub whole : sets o₀ at (entries_bytes tags labels) ≡ sets o p (entries_bytes (drop i tags) (drop from labels))
+  pub room : place + 18 * length tags_left ≡ at + 18 * length tags
+  pub whole : sets o₀ at (entries_bytes tags labels) ≡ sets o place (entries_bytes tags_left labels_left)
 
-pub putting_start : (tags labels o : List ℕ) (at : ℕ) → Putting tags labels o at o at 0 0
-putting_start tags labels o at = record { within = omega arith; same = refl; place = omega arith; label = omega arith; whole = refl }
+module _ (tags labels o₀ : List ℕ) (at : ℕ) where
+  pub putting_start : length labels ≡ 16 * length tags → (left labels_left : List ℕ) (chunk : ℕ) → left ≡ tags → labels_left ≡ labels → chunk ≡ 16
+      → Putting tags labels o₀ at o₀ at left labels_left chunk
+  putting_start h left labels_left chunk x y z = rw (x, y) (record { sixteen_each = z; labelled = h; same = refl; room = refl; whole = refl })
 
-pub putting_end : (tags labels o₀ : List ℕ) (at : ℕ) (o : List ℕ) (p from i : ℕ) → Putting tags labels o₀ at o p from i → length tags ≤ i → o ≡ sets o₀ at (entries_bytes tags labels)
-unfolding entries_bytes
-putting_end tags labels o₀ at o p from i c h = sym (c.whole ∙ rw (drop_of_length-le tags {i = i} h))
+  module _ (o : List ℕ) (place : ℕ) (left labels_left : List ℕ) (chunk : ℕ) (c : Putting tags labels o₀ at o place left labels_left chunk) where
+    pub putting_end : length left ≡ 0 → o ≡ sets o₀ at (entries_bytes tags labels)
+    unfolding entries_bytes
+    putting_end h = let e : left ≡ [] = nil_from_length left h in sym (c.whole ∙ rw e)
 
-pub putting_next : (tags labels o₀ : List ℕ) (at : ℕ) (o : List ℕ) (p from i : ℕ) → Putting tags labels o₀ at o p from i → i < length tags → length labels ≡ 16 * length tags
-    → (o₂ label o₃ : List ℕ) → o₂ ≡ sets o p (bytes_of 2 (get_or tags i 0)) → label ≡ take 16 (drop from labels) → o₃ ≡ sets o₂ (p + 2) label
-    → Putting tags labels o₀ at o₃ (p + 18) (from + 16) (i + 1)
-unfolding entries_bytes
-putting_next tags labels o₀ at o p from i c h k o₂ label o₃ x y z =
-    let key : List ℕ = bytes_of 2 (get_or tags i 0) in
-    let l : List ℕ = take 16 (drop from labels) in
-    let n : length l ≡ 16 = length-take 16 (drop from labels) ∙ rw length-drop (omega (arith, c.label)) in
-    let d : drop 16 (drop from labels) ≡ drop (from + 16) labels = drop-drop 16 from labels in
-    let e : drop i tags ≡ get_or tags i 0 ∷ drop (i + 1) tags = rw add-one (drop-cons tags i 0 h) in
-    let a : p + length key ≡ p + 2 = omega (arith, bytes-length 2 (get_or tags i 0)) in
-    let b : p + 2 + length l ≡ p + 18 = omega arith in
-    let f : o₃ ≡ sets (sets o p key) (p + 2) l = z ∙ rw (x, y) in
-    record {
-      within = omega arith;
-      same = ap length f ∙ length-sets (sets o p key) (p + 2) l ∙ length-sets o p key ∙ c.same;
-      place = omega (arith, c.place);
-      label = omega (arith, c.label);
-      whole =
-          c.whole ∙ ap (λ (u : List ℕ). sets o p (entries_bytes u (drop from labels))) e
-          ∙ sets_append key (l ++ entries_bytes (drop (i + 1) tags) (drop 16 (drop from labels))) o p
-          ∙ rw (a, d) (sets_append l (entries_bytes (drop (i + 1) tags) (drop (from + 16) labels)) (sets o p key) (p + 2) ∙ rw (b, ← f));
-    }
+    -- there is room for the next one
+    pub putting_room : (tag : ℕ) (more : List ℕ) → left ≡ tag ∷ more → at + 18 * length tags ≤ length o₀ → place + 18 ≤ length o
+    putting_room tag more u h = let l : suc (length more) ≡ length left = rw u in omega (arith, c.same, c.room)
+
+    pub putting_next : (tag : ℕ) (more label rest : List ℕ) (chunk₂ : ℕ) → left ≡ tag ∷ more → labels_left ≡ label ++ rest → length label ≡ chunk → chunk₂ ≡ chunk
+        → (o₂ o₃ : List ℕ) → o₂ ≡ sets o place (bytes_of 2 tag) → o₃ ≡ sets o₂ (place + 2) label → Putting tags labels o₀ at o₃ (place + 18) more rest chunk₂
+    unfolding entries_bytes
+    putting_next tag more label rest chunk₂ u v w z o₂ o₃ x y =
+        let key : List ℕ = bytes_of 2 tag in
+        let n : length label ≡ 16 = w ∙ c.sixteen_each in
+        let t : take 16 (label ++ rest) ≡ label = rw (← n) (take-append_seam label rest) in
+        let d : drop 16 (label ++ rest) ≡ rest = rw (← n) (drop-append_seam label rest) in
+        let a : place + length key ≡ place + 2 = omega (arith, bytes-length 2 tag) in
+        let b : place + 2 + length label ≡ place + 18 = omega arith in
+        let f : o₃ ≡ sets (sets o place key) (place + 2) label = y ∙ rw x in
+        let l : suc (length more) ≡ length left = rw u in
+        let m : length labels_left ≡ length label + length rest = rw v (length-append label rest) in
+        record {
+          sixteen_each = z ∙ c.sixteen_each;
+          labelled = omega (arith, c.labelled);
+          same = ap length f ∙ length-sets (sets o place key) (place + 2) label ∙ length-sets o place key ∙ c.same;
+          room = omega (arith, c.room);
+          whole =
+              (rw (u, v) at c.whole) ∙ rw (t, d)
+              (sets_append key (label ++ entries_bytes more rest) o place ∙ rw a (sets_append label (entries_bytes more rest) (sets o place key) (place + 2) ∙ rw (b, ← f)));
+        }
 
 -- the answers
 module _ (tags labels : List ℕ) where

@@ -1,13 +1,13 @@
 -- A primer as bytes: docs/RULES.md, "L8. Writers", and "Tables inside values", the other way round.
-use Rattle.std.specs.Prelude.{ℕ, zero, suc, ◌+◌, ◌*◌, List, [], ◌∷◌, ◌++◌, Bool, true, cond, ◌&&◌, leb, eqb, length, get_or, take, drop}
+use Rattle.std.specs.Prelude.{ℕ, zero, suc, ◌+◌, ◌*◌, List, [], ◌∷◌, ◌++◌, Bool, cond, ◌&&◌, leb, eqb, length, get_or, take, drop}
+use Rattle.std.specs.List.{list_all}
 use Rattle.parts.specs.Answer.{Answer, is, none}
 use Rattle.written_numbers.specs.Number.{bytes_of}
 use Rattle.primer.specs.LastWins.{place}
 
 -- each tag has two bytes
-unfoldable pub all_tags : List ℕ → Bool
-all_tags [] = true
-all_tags (t ∷ more) = leb t 0xffff && all_tags more
+abbrev pub all_tags : List ℕ → Bool
+all_tags tags = list_all (λ t. leb t 0xffff) tags
 
 -- a count of four bytes, a label of 16 for each tag
 unfoldable pub good_primer : List ℕ → List ℕ → Bool

@@ -1,4 +1,5 @@
 -- A KLV that was written, its key a key's start, is what the walks find there, and the strict gate too. Assumes nothing.
+use Rattle.std.specs.Prelude.{Ok}
 use Prim.Native.Nat.{ℕ, zero, suc, ◌+◌, ◌≤◌, ◌<◌}
 use mathlib.Core.Path.{◌≡◌, ap}
 use mathlib.Core.List.{List, [], ◌∷◌, ◌++◌}
@@ -10,7 +11,6 @@ use lib.ListN.{length, get_or, length-append}
 use lib.Seq.{sets}
 use Rattle.written_numbers.proofs.Stores.{Stands, stands_left, stands_right, stored}
 use Rattle.labels.specs.Label.{key_at}
-use Rattle.lengths.specs.declared.Length.TheVariants.{Is}
 use Rattle.lengths.specs.Length.{bound_of, length_at}
 use Rattle.klv.specs.Item.{klv}
 use Rattle.walk.specs.declared.Turn.TheVariants.{Record}
@@ -79,7 +79,7 @@ module _ (t : List ℕ) (at : ℕ) (g : Given) (good : Good g) (w : Stands (give
   unfolding klv_bytes
   key = key-there t at g.key good.sixteen good.key (stands_left g.key (form_of g.size n ++ g.value) w)
 
-  reads : length_at t (at + 16) ≡ Is (told g.size n)
+  reads : length_at t (at + 16) ≡ Ok (told g.size n)
   reads = read_form t (at + 16) g.size n good.few good.below form
 
   long : length (given_bytes g) ≡ 16 + g.size + n

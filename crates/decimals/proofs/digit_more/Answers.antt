@@ -1,16 +1,18 @@
--- `decimals::digit_more` meets its contract: its tests are the definition's, the last one without a sum that wraps.
-use native.Mathlib.Omega.{arith}
-use Rattle.decimals.proofs.Laws.{digit_low, digit_high, digit_much, digit_is}
+-- `decimals::digit_more` meets its contract: its tests are the definition's.
+use Rattle.std.proofs.Common.{arith}
+use Rattle.std.proofs.lemmas.Grind.{common_steps}
+use Rattle.std.proofs.lemmas.Bool.Decides.{nat_tests}
+use Rattle.decimals.specs.Decimal.{digit_more}
 use Rattle.decimals.proofs.digit_more.Goals as goal
 
-pub returns-then-d-lt48 : goal.returns-then-d-lt48
-returns-then-d-lt48 c = digit_low _ _ (omega arith)
+pub returns-then-not-is_ascii_digit : goal.returns-then-not-is_ascii_digit
+unfolding digit_more
+returns-then-not-is_ascii_digit c = grind (arith, common_steps, nat_tests, c.if-not-is_ascii_digit.ensures)
 
-pub returns-then-d-gt57 : goal.returns-then-d-gt57
-returns-then-d-gt57 c = digit_high _ _ (omega arith) (omega arith)
-
-pub returns-then-v-n : goal.returns-then-v-n
-returns-then-v-n c = digit_much _ _ (omega arith) (omega arith) (omega arith)
+pub returns-in_err-checked_mul : goal.returns-in_err-checked_mul
+unfolding digit_more
+returns-in_err-checked_mul c = rw c.from_residual.ensures (grind (arith, common_steps, nat_tests))
 
 pub returns : goal.returns
-returns c = digit_is _ _ (omega arith) (omega arith) (omega arith)
+unfolding digit_more
+returns c = grind (arith, common_steps, nat_tests, c.checked_add.ensures)

@@ -1,5 +1,4 @@
 -- `descriptor::read` meets its contract. The loop's invariant: the items from the cursor on give what all of them give.
-use Prim.Native.Nat.{◌-◌}
 use mathlib.Core.Path.{◌≡◌, sym}
 use mathlib.Core.Bool.{false}
 use native.Mathlib.Omega.{arith}
@@ -28,7 +27,25 @@ fits c = item-fits _ _ _ _ _ _ ((let h : item_step 2 false c.args.s.now c.loop-k
     ≡ found (item 2 c.args.s.now c.in-Item.k) c.in-Item.next.at = sym (rw c.in-Item.is at c.step-t.ensures) in h))
 
 pub loop-k-init : goal.loop-k-init
-loop-k-init c = going_start _ _ _ _ _ _ c.empty-d.ensures
+loop-k-init c =
+    let h = c.default-d.ensures in
+    let areas = h.1.1.1.1.1.1.1.1 in
+    let a = areas.0 in
+    let b = areas.1.0 in
+    going_start _ _ _ _ _ _ (λ i. record {
+      duration = h.0 i;
+      timecode_base = h.1.0 i;
+      start_timecode = h.1.1.0 i;
+      drop_frame = h.1.1.1.0 i;
+      sample_rate = h.1.1.1.1.0 i;
+      container_duration = h.1.1.1.1.1.0 i;
+      stored_height = h.1.1.1.1.1.1.0 i;
+      stored_width = h.1.1.1.1.1.1.1.0 i;
+      sampled = record { height = a.0 i; width = a.1.0 i; x_offset = a.1.1.0 i; y_offset = a.1.1.1 i };
+      display = record { height = b.0 i; width = b.1.0 i; x_offset = b.1.1.0 i; y_offset = b.1.1.1 i };
+      aspect_ratio = areas.1.1.0 i;
+      color_range = areas.1.1.1 i;
+    })
 
 pub overflow_sub-s : goal.overflow_sub-s
 overflow_sub-s c = omega (arith, c.loop-k.invariant)

@@ -6,7 +6,4 @@ use Rattle.fed.specs.Parts.{breaks_of}
 use Rattle.fed.proofs.breaks.Given as goal
 
 abbrev pub invariant-loop-i : goal.invariant-loop-i
-invariant-loop-i l = (l.i ≤ length l.piece) × (l.i ≤ 4 - l.have) × (l.i + breaks_of (l.have + l.i) (drop l.i l.piece) ≡ breaks_of l.have l.piece)
-
-abbrev pub decreases-loop-i : goal.decreases-loop-i
-decreases-loop-i l = length l.piece - l.i
+invariant-loop-i l = (l.i ≤ 4 - l.have) × (l.i + breaks_of (l.have + l.i) (drop l.i l.piece) ≡ breaks_of l.have l.piece)

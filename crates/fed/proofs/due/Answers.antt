@@ -1,42 +1,38 @@
+-- `fed::due` meets its contract, case by case.
+use Rattle.std.specs.Prelude.{Ok}
 use mathlib.Core.Path.{◌≡◌, sym, ap, ◌∙◌}
-use mathlib.Core.Logic.{⊎_elim}
 use native.Mathlib.Omega.{arith}
-use Rattle.lengths.specs.declared.Length.TheVariants.{Is}
-use Rattle.lengths.proofs.Enums.{no_is, no_cut}
+use Rattle.lengths.proofs.Errors.{cut-so, invalid-so}
 use Rattle.fed_states.specs.State.{length_of}
-use Rattle.fed_states.proofs.Laws.{Come, come}
+use Rattle.fed_states.proofs.Laws.{come}
 use Rattle.fed.specs.Parts.{due_of}
 use Rattle.fed.proofs.Biting.{due_cut, due_none, due_fits, due_late}
-use borrow.Enum.Refused.{opened}
 use Rattle.fed.proofs.due.Goals as goal
-use Rattle.fed.proofs.due.Goals.{In-Is}
+use Rattle.fed.proofs.due.Goals.{In-Ok}
 
-is-length : (c : goal.In-Is) → length_of c.args.st ≡ Is c.in-Is.f
-is-length c = sym c.requires.l_value ∙ c.in-Is.is
+is-length : (c : goal.In-Ok) → length_of c.args.st ≡ Ok c.in-Ok.f
+is-length c = sym c.requires.l_value ∙ c.in-Ok.is
 
-is-come : (c : goal.In-Is) → Come c.args.st c.in-Is.f.size
-is-come c = come _ _ (let h : length_of c.args.st ≡ Is c.in-Is.f = sym c.requires.l_value ∙ c.in-Is.is in h)
+pub returns-then-eq : goal.returns-then-eq
+returns-then-eq c = sym (ap (due_of c.args.st) (cut-so _ (sym c.eq.ensures ∙ c.if-eq.true)) ∙ due_cut c.args.st)
 
-pub returns-in-Cut : goal.returns-in-Cut
-returns-in-Cut c = rw c.in-Cut.is (sym (due_cut c.args.st))
-
-pub returns-in_default-l : goal.returns-in_default-l
-returns-in_default-l c = sym (ap (due_of c.args.st) (⊎_elim (λ e. absurd (no_cut _ (opened c.in_default.in_default-own.keys2) e)) (λ e. e) (no_is _ (opened c.in_default-l.in_default-l-own.keys2))) ∙ due_none c.args.st)
+pub returns-else-eq : goal.returns-else-eq
+returns-else-eq c = sym (ap (due_of c.args.st) (invalid-so _ _ c.in_default.is (sym c.eq.ensures ∙ c.if-eq.false)) ∙ due_none c.args.st)
 
 pub overflow_add-size : goal.overflow_add-size
-overflow_add-size c = omega (arith, is-come (goal.at.overflow_add-size c).In-Is)
+overflow_add-size c = omega (arith, come c.args.st c.in-Ok.f (is-length (goal.at.overflow_add-size c).In-Ok))
 
 pub overflow_add-st : goal.overflow_add-st
-overflow_add-st c = omega (arith, is-come (goal.at.overflow_add-st c).In-Is)
+overflow_add-st c = omega (arith, come c.args.st c.in-Ok.f (is-length (goal.at.overflow_add-st c).In-Ok))
 
 pub overflow_sub-st : goal.overflow_sub-st
-overflow_sub-st c = omega (arith, is-come (goal.at.overflow_sub-st c).In-Is)
+overflow_sub-st c = omega (arith, come c.args.st c.in-Ok.f (is-length (goal.at.overflow_sub-st c).In-Ok))
 
 pub overflow_add-result : goal.overflow_add-result
-overflow_add-result c = omega (arith, is-come (goal.at.overflow_add-result c).In-Is)
+overflow_add-result c = omega (arith, come c.args.st c.in-Ok.f (is-length (goal.at.overflow_add-result c).In-Ok))
 
 pub returns-then-f-st : goal.returns-then-f-st
-returns-then-f-st c = rw c.in-Is.is (sym (due_fits c.args.st _ (omega (arith, is-come (goal.at.returns-then-f-st c).In-Is))))
+returns-then-f-st c = rw c.in-Ok.is (sym (due_fits c.args.st _ (omega (arith, come c.args.st c.in-Ok.f (is-length (goal.at.returns-then-f-st c).In-Ok)))))
 
 pub returns : goal.returns
-returns c = rw c.in-Is.is (sym (due_late c.args.st _ (omega (arith, is-come (goal.at.returns c).In-Is))))
+returns c = rw c.in-Ok.is (sym (due_late c.args.st _ (omega (arith, come c.args.st c.in-Ok.f (is-length (goal.at.returns c).In-Ok)))))

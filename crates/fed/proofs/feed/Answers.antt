@@ -1,26 +1,35 @@
 -- `fed::feed` meets its contract: what was reached, or what the search from there on comes to.
-use Prim.Native.Nat.{◌-◌}
-use mathlib.Core.Path.{sym, ◌∙◌}
+use Rattle.std.proofs.Common.{sym, ◌∙◌}
+use Rattle.std.proofs.lemmas.Result.{err_from_is_err_and}
 use native.Mathlib.Omega.{arith}
-use Rattle.fed.proofs.Reaching.{Searching, Reached, reached, resumed_end, resumed_told}
-use borrow.Enum.Refused.{opened}
+use Rattle.fed_states.specs.Close.{refused_by}
+use Rattle.fed.proofs.Reaching.{Reached, reached, reach_refuses, is-none, resumed_end, resumed_told}
 use Rattle.fed.proofs.feed.Goals as goal
-use Rattle.fed.proofs.feed.Goals.{After-reach-f, Then-f-piece}
+use Rattle.fed.proofs.feed.Goals.{In_ok-f}
 
-is-reached : (c : goal.After-reach-f) → Reached c.args.st c.args.piece.now c.reach-f.result
-is-reached c = reached _ _ _ c.reach-f.ensures
+is-reached : (c : goal.In_ok-f) → Reached c.args.st c.args.piece.now c.in_ok-f.f
+is-reached c = reached _ _ _ (rw c.in_ok-f.was at c.reach.ensures)
 
-found : (c : goal.Then-f-piece) → Searching c.args.st c.args.piece.now c.reach-f.result.state c.reach-f.result.taken
-found c = (let h : Reached c.args.st c.args.piece.now c.reach-f.result = reached _ _ _ c.reach-f.ensures in h).searching c.in-Nothing.is c.if-f-piece.true
+pub returns-in_err-f : goal.returns-in_err-f
+returns-in_err-f c =
+    let p = err_from_is_err_and c.from_residual.result c.from_residual.ensures.1 in
+    rw (p.1, p.2) (reach_refuses _ _ _ (rw c.in_err-f.was at c.reach.ensures))
+
+pub returns-then-is_some : goal.returns-then-is_some
+returns-then-is_some c =
+    let f = c.in_ok-f.f in
+    sym (resumed_told _ f.state f.taken f.found (sym c.is_some.ensures ∙ c.if-is_some.true)) ∙ (is-reached (goal.at.returns-then-is_some c).In_ok-f).goes
 
 pub walk_on-requires : goal.walk_on-requires
-walk_on-requires c = let f = found (goal.at.walk_on-requires c).Then-f-piece in record { i_in_bounds = omega (arith, c.if-f-piece.true); i_bound = omega (arith, f.same, f.fits) }
+walk_on-requires c =
+    let f = (is-reached (goal.at.walk_on-requires c).In_ok-f).searching (is-none _ (sym c.is_some.ensures ∙ c.if-is_some.false)) c.if-f-piece.true in
+    record { i_in_bounds = omega (arith, c.if-f-piece.true); i_bound = omega (arith, f.same, f.fits) }
 
 pub returns-then-f-piece : goal.returns-then-f-piece
-returns-then-f-piece c = c.walk_on.ensures ∙ (found (goal.at.returns-then-f-piece c).Then-f-piece).is
+returns-then-f-piece c =
+    c.walk_on.ensures ∙ ((is-reached (goal.at.returns-then-f-piece c).In_ok-f).searching (is-none _ (sym c.is_some.ensures ∙ c.if-is_some.false)) c.if-f-piece.true).is
 
-pub returns-else-f-piece : goal.returns-else-f-piece
-returns-else-f-piece c = sym (resumed_end _ _ _ (omega (arith, c.if-f-piece.false)) _ c.in-Nothing.is) ∙ (is-reached (goal.at.returns-else-f-piece c).After-reach-f).goes
-
-pub returns-in_default : goal.returns-in_default
-returns-in_default c = sym (resumed_told _ c.reach-f.result.state c.reach-f.result.taken c.reach-f.result.answer (opened c.in_default.in_default-own.keys2)) ∙ (is-reached (goal.at.returns-in_default c).After-reach-f).goes
+pub returns : goal.returns
+returns c =
+    let f = c.in_ok-f.f in
+    sym (resumed_end _ f.state f.taken (omega (arith, c.if-f-piece.false)) f.found (sym c.is_some.ensures ∙ c.if-is_some.false)) ∙ (is-reached (goal.at.returns c).In_ok-f).goes

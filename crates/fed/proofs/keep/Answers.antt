@@ -31,13 +31,13 @@ near c =
     let e : c.wait_from-q.result ≡ wait_from c.args.s.now c.args.w = c.wait_from-q.ensures in
     omega (arith, e, search_most (key_begins c.args.s.now) (length c.args.s.now) c.args.w, c.requires.w_in_bounds)
 
-pub overflow_sub-lesser : goal.overflow_sub-lesser
-overflow_sub-lesser c = omega (arith, c.lesser.ensures, room (goal.at.overflow_sub-lesser c).After-next_key-r c.if-r-s.true)
+pub overflow_sub-min : goal.overflow_sub-min
+overflow_sub-min c = omega (arith, c.min.ensures, room (goal.at.overflow_sub-min c).After-next_key-r c.if-r-s.true)
 
 pub fill-k-requires : goal.fill-k-requires
 fill-k-requires c =
     let n = room (goal.at.fill-k-requires c).After-next_key-r c.if-r-s.true in
-    let m = c.lesser.ensures in
+    let m = c.min.ensures in
     record { m_in_bounds = omega arith; m_bound = rw c.sought.ensures (omega arith) }
 
 pub returns-then-r-s : goal.returns-then-r-s
@@ -46,7 +46,7 @@ returns-then-r-s c =
     let r = c.next_key-r.result in
     let f = found (goal.at.returns-then-r-s c).After-next_key-r in
     let n = room (goal.at.returns-then-r-s c).After-next_key-r c.if-r-s.true in
-    let e = c.lesser.ensures in
+    let e = c.min.ensures in
     let is : c.fill-k.result ≡ filled (sought a.st (a.here + r) 4) a.s.now (r + 4) (min (length a.s.now - r) 25 - 4) =
     c.fill-k.ensures ∙ ap₂ (λ (s : State) (m : ℕ). filled s a.s.now (r + 4) (m - 4)) c.sought.ensures e in
     let k = only-counted (sought a.st (a.here + r) 4) a.s.now (r + 4) (min (length a.s.now - r) 25 - 4) (length a.s.now - (r + 4)) (omega arith) (λ h. omega arith) in

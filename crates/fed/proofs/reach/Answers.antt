@@ -10,7 +10,6 @@ use Rattle.fed.specs.Parts.{reaches, reach_of}
 use Rattle.fed.proofs.Biting.{bitten_record, bitten_on}
 use Rattle.fed.proofs.Starting.{reaches-none, reaches-start}
 use Rattle.fed.proofs.Reaching.{reach_closed, reach_past, reach-in}
-use borrow.Enum.Refused.{opened}
 use Rattle.fed.proofs.reach.Goals as goal
 use Rattle.fed.proofs.reach.Goals.{At-loop-i, Else-not-sound}
 
@@ -44,15 +43,12 @@ returns-then-st-piece c = sym (reach_past _ _ (is-sound (goal.at.returns-then-st
 pub loop-i-init : goal.loop-i-init
 loop-i-init c = let g = is-so (goal.at.loop-i-init c).Else-not-sound in (omega arith, record { same = refl; fits = omega (arith, g.within) }, refl)
 
-pub returns-then-starts : goal.returns-then-starts
-returns-then-starts c = sym (reaches-start _ _ _ _ c.loop-i-test.true (sym c.starts.ensures ∙ c.if-starts.true)) ∙ taken (goal.at.returns-then-starts c).At-loop-i
-
 pub next-f-requires : goal.next-f-requires
 next-f-requires c = let g = c.loop-i.invariant.1 in record { i_in_bounds = omega (arith, c.loop-i-test.true); i_bound = omega (arith, g.fits, g.same); i_value = sym c.starts.ensures ∙ c.if-starts.false }
 
-pub returns-in-Record : goal.returns-in-Record
-returns-in-Record c =
-    bitten_record c.loop-i.s c.args.piece.now c.loop-i.i _ c.next-f.ensures _ _ c.in-Record.is ∙ taken (goal.at.returns-in-Record c).At-loop-i
+pub returns-then-is_some : goal.returns-then-is_some
+returns-then-is_some c =
+    bitten_record c.loop-i.s c.args.piece.now c.loop-i.i _ c.next-f.ensures (sym c.is_some.ensures ∙ c.if-is_some.true) ∙ taken (goal.at.returns-then-is_some c).At-loop-i
 
 pub loop-i-smaller : goal.loop-i-smaller
 loop-i-smaller c = let b = c.next-f.ensures in omega (arith, b.up, b.most)
@@ -61,10 +57,13 @@ pub loop-i-preserved : goal.loop-i-preserved
 loop-i-preserved c =
     let b = c.next-f.ensures in
     let g = c.loop-i.invariant.1 in
-    (b.most, record { same = b.same ∙ g.same; fits = omega (arith, b.fits, g.same) }, bitten_on c.loop-i.s c.args.piece.now c.loop-i.i _ b (opened c.in_default.in_default-own.keys2) ∙ c.loop-i.invariant.2)
+    (b.most, record { same = b.same ∙ g.same; fits = omega (arith, b.fits, g.same) }, bitten_on c.loop-i.s c.args.piece.now c.loop-i.i _ b (sym c.is_some.ensures ∙ c.if-is_some.false) ∙ c.loop-i.invariant.2)
 
-pub returns : goal.returns
-returns c = sym (reaches-none c.loop-i.s c.args.piece.now c.loop-i.i c.loop-i.i (omega (arith, c.loop-i-test.false))) ∙ taken (goal.at.returns c).At-loop-i
+pub returns-then-starts : goal.returns-then-starts
+returns-then-starts c = sym (reaches-start _ _ _ _ c.loop-i-test.true (sym c.starts.ensures ∙ c.if-starts.true)) ∙ taken (goal.at.returns-then-starts c).At-loop-i
+
+pub returns-after-loop-i : goal.returns-after-loop-i
+returns-after-loop-i c = sym (reaches-none c.loop-i.s c.args.piece.now c.loop-i.i c.loop-i.i (omega (arith, c.loop-i-test.false))) ∙ taken (goal.at.returns-after-loop-i c).At-loop-i
 
 pub bounds-piece-i : goal.bounds-piece-i
 bounds-piece-i c = omega (arith, c.loop-i-test.true)

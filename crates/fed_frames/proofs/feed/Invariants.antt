@@ -3,8 +3,8 @@ use Rattle.std.proofs.Common.{◌-◌, length}
 use Rattle.fed_frames.proofs.Looking.{Left}
 use Rattle.fed_frames.proofs.feed.Given as goal
 
-abbrev pub invariant-loop-w : goal.invariant-loop-w
-invariant-loop-w l = Left l.w l.piece l.s l.i
+abbrev pub invariant-loop-f : goal.invariant-loop-f
+invariant-loop-f l = Left l.w l.piece l.s l.i
 
-abbrev pub decreases-loop-w : goal.decreases-loop-w
-decreases-loop-w l = length l.piece - l.i
+abbrev pub decreases-loop-f : goal.decreases-loop-f
+decreases-loop-f l = length l.piece - l.i

@@ -14,4 +14,4 @@ returns c =
     let bytes : Bytes a.s.now = λ i. (c.type_inv.s i).fits in
     let m = c.number.ensures ∙ number_read a.s.now (a.v + 32) 8 bytes (omega arith) (omega arith) in
     let n = c.number-2.ensures ∙ number_read a.s.now (a.v + 4) 4 bytes (omega arith) (omega arith) in
-    omega (arith, m, n, c.lesser-first.ensures, c.lesser-second.ensures)
+    omega (arith, m, n)

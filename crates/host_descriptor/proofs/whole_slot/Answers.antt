@@ -2,10 +2,10 @@
 use Rattle.host_descriptor.specs.Places.{whole_slot}
 use Rattle.host_descriptor.proofs.whole_slot.Goals as goal
 
-pub returns-in-Is : goal.returns-in-Is
+pub returns-in-Some : goal.returns-in-Some
 unfolding whole_slot
-returns-in-Is c = rw c.in-Is.is c.of_kind.ensures
+returns-in-Some c = rw c.in-Some.is c.of_kind.ensures
 
-pub returns-in-Nothing : goal.returns-in-Nothing
+pub returns-in-None : goal.returns-in-None
 unfolding whole_slot
-returns-in-Nothing c = rw c.in-Nothing.is c.nothing.ensures
+returns-in-None c = rw c.in-None.is c.nothing.ensures

@@ -1,10 +1,11 @@
 -- `host_fed_states::value_of` meets its contract: a law for each return.
+use Rattle.std.specs.Prelude.{Ok, Result}
 use Prim.Native.Nat.{◌+◌, ◌≤◌, ◌<◌, ◌^◌}
 use mathlib.Core.Path.{◌≡◌, sym, ap, ◌∙◌}
 use mathlib.Core.List.{◌++◌}
 use native.Mathlib.Omega.{arith}
-use Rattle.lengths.specs.declared.Length.{Length}
-use Rattle.lengths.specs.declared.Length.TheVariants.{Is}
+use Rattle.lengths.specs.declared.Field.{Field}
+use Rattle.lengths.specs.declared.NoLength.{NoLength}
 use Rattle.lengths.specs.Length.{length_at}
 use Rattle.lengths.proofs.Enums.{no_is}
 use Rattle.lengths.proofs.Laws.{Taken, taken}
@@ -17,27 +18,27 @@ use borrow.Enum.Refused.{opened}
 use Rattle.host_fed_states.proofs.value_of.Goals as goal
 use Rattle.host_fed_states.proofs.value_of.Goals.{Else-limit-value, In-Is, Start}
 
-is-so : (c : goal.In-Is) → length_at (bytes_of 1 c.args.lead ++ bytes_of 8 c.args.eight) 0 ≡ Is c.in-Is.f
+is-so : (c : goal.In-Is) → length_at (bytes_of 1 c.args.lead ++ bytes_of 8 c.args.eight) 0 ≡ Ok c.in-Is.f
 is-so c = sym c.length_of-l.ensures ∙ c.in-Is.is
 
 is-taken : (c : goal.In-Is) → Taken (bytes_of 1 c.args.lead ++ bytes_of 8 c.args.eight) 0 c.in-Is.f.size
-is-taken c = taken _ 0 _ (let h : length_at (bytes_of 1 c.args.lead ++ bytes_of 8 c.args.eight) 0 ≡ Is c.in-Is.f = sym c.length_of-l.ensures ∙ c.in-Is.is in h)
+is-taken c = taken _ 0 _ (let h : length_at (bytes_of 1 c.args.lead ++ bytes_of 8 c.args.eight) 0 ≡ Ok c.in-Is.f = sym c.length_of-l.ensures ∙ c.in-Is.is in h)
 
 starts : (c : goal.In-Is) → c.args.at + 16 + c.in-Is.f.size ≤ c.args.limit
-starts c = omega (arith, (let h : Taken (bytes_of 1 c.args.lead ++ bytes_of 8 c.args.eight) 0 c.in-Is.f.size = taken _ 0 _ (let h : length_at (bytes_of 1 c.args.lead ++ bytes_of 8 c.args.eight) 0 ≡ Is c.in-Is.f = sym c.length_of-l.ensures ∙ c.in-Is.is in h) in h).most, c.requires)
+starts c = omega (arith, (let h : Taken (bytes_of 1 c.args.lead ++ bytes_of 8 c.args.eight) 0 c.in-Is.f.size = taken _ 0 _ (let h : length_at (bytes_of 1 c.args.lead ++ bytes_of 8 c.args.eight) 0 ≡ Ok c.in-Is.f = sym c.length_of-l.ensures ∙ c.in-Is.is in h) in h).most, c.requires)
 
 limit-fits : (c : goal.Start) → c.args.limit < 2 ^ 64
 limit-fits c = search rules
 
 -- what the rules say of it
-says : (c : goal.In-Is) (v : Value) → v ≡ value_of c.args.limit c.args.at c.args.have (Is c.in-Is.f)
+says : (c : goal.In-Is) (v : Value) → v ≡ value_of c.args.limit c.args.at c.args.have (Ok c.in-Is.f)
     → v ≡ value_of c.args.limit c.args.at c.args.have (length_at (bytes_of 1 c.args.lead ++ bytes_of 8 c.args.eight) 0)
-says c v e = e ∙ ap (λ (l : Length). value_of c.args.limit c.args.at c.args.have l) (sym (let h : length_at (bytes_of 1 c.args.lead ++ bytes_of 8 c.args.eight) 0 ≡ Is c.in-Is.f = sym c.length_of-l.ensures ∙ c.in-Is.is in h))
+says c v e = e ∙ ap (λ (l : Result Field NoLength). value_of c.args.limit c.args.at c.args.have l) (sym (let h : length_at (bytes_of 1 c.args.lead ++ bytes_of 8 c.args.eight) 0 ≡ Ok c.in-Is.f = sym c.length_of-l.ensures ∙ c.in-Is.is in h))
 
 pub returns-in_default : goal.returns-in_default
 returns-in_default c =
     let a = c.args in
-    c.nowhere.ensures ∙ value_none a.limit a.at a.have _ (no_is _ (opened c.in_default.in_default-own.keys2)) ∙ ap (λ (l : Length). value_of a.limit a.at a.have l) c.length_of-l.ensures
+    c.nowhere.ensures ∙ value_none a.limit a.at a.have _ (no_is _ (opened c.in_default.in_default-own.keys2)) ∙ ap (λ (l : Result Field NoLength). value_of a.limit a.at a.have l) c.length_of-l.ensures
 
 pub overflow_add-behind : goal.overflow_add-behind
 overflow_add-behind c = omega (arith, (is-taken (goal.at.overflow_add-behind c).In-Is).most)
@@ -49,7 +50,7 @@ pub overflow_sub-limit : goal.overflow_sub-limit
 overflow_sub-limit c = omega (arith, starts (goal.at.overflow_sub-limit c).In-Is)
 
 within : (c : goal.Else-limit-value) → c.args.at + 16 + c.in-Is.f.size + c.in-Is.f.value ≤ c.args.limit
-within c = omega (arith, c.if-limit-value.false, (let h : c.args.at + 16 + c.in-Is.f.size ≤ c.args.limit = omega (arith, (let h : Taken (bytes_of 1 c.args.lead ++ bytes_of 8 c.args.eight) 0 c.in-Is.f.size = taken _ 0 _ (let h : length_at (bytes_of 1 c.args.lead ++ bytes_of 8 c.args.eight) 0 ≡ Is c.in-Is.f = sym c.length_of-l.ensures ∙ c.in-Is.is in h) in h).most, c.requires) in h))
+within c = omega (arith, c.if-limit-value.false, (let h : c.args.at + 16 + c.in-Is.f.size ≤ c.args.limit = omega (arith, (let h : Taken (bytes_of 1 c.args.lead ++ bytes_of 8 c.args.eight) 0 c.in-Is.f.size = taken _ 0 _ (let h : length_at (bytes_of 1 c.args.lead ++ bytes_of 8 c.args.eight) 0 ≡ Ok c.in-Is.f = sym c.length_of-l.ensures ∙ c.in-Is.is in h) in h).most, c.requires) in h))
 
 pub returns-then-limit-value : goal.returns-then-limit-value
 returns-then-limit-value c =

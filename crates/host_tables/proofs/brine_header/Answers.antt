@@ -3,10 +3,10 @@ use mathlib.Core.Path.{refl, sym}
 use Rattle.host_tables.specs.Places.{header_places}
 use Rattle.host_tables.proofs.brine_header.Goals as goal
 
-pub returns-in-Part : goal.returns-in-Part
+pub returns-in-Some : goal.returns-in-Some
 unfolding header_places
-returns-in-Part c = record { value = refl; out_after = rw (sym c.find-h.ensures, c.in-Part.is) refl }
+returns-in-Some c = record { value = refl; out_after = rw (sym c.find-h.ensures, c.in-Some.is) refl }
 
-pub returns-in-Nothing : goal.returns-in-Nothing
+pub returns-in-None : goal.returns-in-None
 unfolding header_places
-returns-in-Nothing c = record { value = refl; out_after = rw (sym c.find-h.ensures, c.in-Nothing.is) refl }
+returns-in-None c = record { value = refl; out_after = rw (sym c.find-h.ensures, c.in-None.is) refl }

@@ -3,10 +3,10 @@ use mathlib.Core.Path.{refl, sym}
 use Rattle.host_tables.specs.Places.{line_places}
 use Rattle.host_tables.proofs.brine_line.Goals as goal
 
-pub returns-in-Line : goal.returns-in-Line
+pub returns-in-Some : goal.returns-in-Some
 unfolding line_places
-returns-in-Line c = record { value = refl; out_after = rw (sym c.step-t.ensures, c.in-Line.is) refl }
+returns-in-Some c = record { value = refl; out_after = rw (sym c.in-Some.ensures) refl }
 
-pub returns-in-End : goal.returns-in-End
+pub returns-in-None : goal.returns-in-None
 unfolding line_places
-returns-in-End c = record { value = refl; out_after = rw (sym c.step-t.ensures, c.in-End.is) refl }
+returns-in-None c = record { value = refl; out_after = rw (sym c.in-None.ensures) refl }

@@ -1,5 +1,5 @@
 -- `index::eight_at` meets its contract. The loop's invariant: the value is the number that the bytes passed hold.
-use Prim.Native.Nat.{◌+◌, ◌-◌}
+use Prim.Native.Nat.{◌+◌}
 use mathlib.Core.Path.{◌≡◌, sym}
 use native.Mathlib.Omega.{arith}
 use Rattle.parts.specs.Bytes.{Bytes}

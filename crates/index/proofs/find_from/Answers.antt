@@ -1,5 +1,4 @@
 -- `index::find_from` meets its contract.
-use mathlib.Core.Path.{◌∙◌}
 use native.Mathlib.Omega.{arith}
 use Rattle.index.proofs.Laws.{from-short, from-over, from_in}
 use Rattle.index.proofs.find_from.Goals as goal
@@ -15,4 +14,4 @@ returns-then-room-used c =
 pub returns : goal.returns
 returns c =
     let a = c.args in
-    c.look.ensures ∙ from_in a.l a.down a.room a.b.now a.used a.pos (omega (arith, c.if-b-room.false)) (omega (arith, c.if-room-used.false))
+    rw c.look.ensures (from_in a.l a.down a.room a.b.now a.used a.pos (omega (arith, c.if-b-room.false)) (omega (arith, c.if-room-used.false)))

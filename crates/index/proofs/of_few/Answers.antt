@@ -1,5 +1,4 @@
 -- `index::of_few` meets its contract. The loop's invariant: so many of the records passed do.
-use Prim.Native.Nat.{◌-◌}
 use mathlib.Core.Path.{◌≡◌}
 use native.Mathlib.Omega.{arith}
 use native.Mathlib.Numerals.{add-one}

@@ -14,17 +14,17 @@ returns-then-b-ne16 c = agree_other_b _ _ _ _ _ (omega arith) (omega arith)
 
 pub loop-i-init : goal.loop-i-init
 unfolding first_agree
-loop-i-init c = (omega arith, refl)
+loop-i-init c = refl
 
 pub returns-then-i-agree : goal.returns-then-i-agree
 returns-then-i-agree c =
-    agree_early _ _ _ _ _ _ (omega arith) (unmet (eqb c.loop-i.i 8) _ c.if-i-agree.true ∙ c.loop-i.invariant.1) (omega arith) (omega arith)
+    agree_early _ _ _ _ _ _ (omega arith) (unmet (eqb c.loop-i.i 8) _ c.if-i-agree.true ∙ c.loop-i.invariant) (omega arith) (omega arith)
 
 pub loop-i-preserved : goal.loop-i-preserved
 loop-i-preserved c =
-    (omega arith, rw c.loop-i.invariant.1 (agree_more _ _ _ _ _ _))
+    rw c.loop-i.invariant (agree_more _ _ _ _ _ _)
 
 pub returns : goal.returns
 returns c =
     let e : c.loop-i.i ≡ 16 = omega arith in
-    rw e at c.loop-i.invariant.1 ∙ agree_sixteen _ _ _ _ _ (omega arith) (omega arith)
+    rw e at c.loop-i.invariant ∙ agree_sixteen _ _ _ _ _ (omega arith) (omega arith)

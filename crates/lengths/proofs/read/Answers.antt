@@ -9,7 +9,7 @@ pub returns-then-s-at : goal.returns-then-s-at
 returns-then-s-at c = sym (past _ _ (omega arith))
 
 pub returns-then-first-lt128 : goal.returns-then-first-lt128
-returns-then-first-lt128 c = rw c.u64_of.ensures (sym (short_read _ _ (omega arith) (omega arith)))
+returns-then-first-lt128 c = rw c.from.ensures (sym (short_read _ _ (omega arith) (omega arith)))
 
 pub returns-then-first-gt136 : goal.returns-then-first-gt136
 returns-then-first-gt136 c = sym (no_length _ _ (omega arith) (omega arith))

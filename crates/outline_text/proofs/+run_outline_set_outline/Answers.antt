@@ -13,22 +13,22 @@ run_outline-returns-in_default t c =
     going_end _ _ _ _ _ _ c.loop-k.invariant _ (run_end _ _ _ c.step-f.ensures c.in_default.is)
     (rw c.saturating_sub.ensures at c.add_rest.ensures)
 
-pub run_outline-loop-k-smaller-in_default-o : goal.run_outline-loop-k-smaller-in_default-o
-run_outline-loop-k-smaller-in_default-o t c =
+pub run_outline-loop-k-smaller-in_default-set_in : goal.run_outline-loop-k-smaller-in_default-set_in
+run_outline-loop-k-smaller-in_default-set_in t c =
     omega (arith, item_moves _ _ _ _ _ _ (run-item _ _ _ c.step-f.ensures _ _ c.in-Item.is))
 
-pub run_outline-loop-k-preserved-in_default-o : goal.run_outline-loop-k-preserved-in_default-o
-run_outline-loop-k-preserved-in_default-o t c =
+pub run_outline-loop-k-preserved-in_default-set_in : goal.run_outline-loop-k-preserved-in_default-set_in
+run_outline-loop-k-preserved-in_default-set_in t c =
     going_leaf _ _ _ _ _ _ c.loop-k.invariant _ _ (run-item _ _ _ c.step-f.ensures _ _ c.in-Item.is)
     (rw c.label-key.ensures at c.add_item-place.ensures)
-    (run-leaf _ _ _ (sym (rw c.label-key.ensures at c.set_in-o.ensures) ∙ c.in_default-o.is))
+    (run-leaf _ _ _ (sym (rw c.label-key.ensures at c.set_in.ensures) ∙ c.in_default-set_in.is))
 
 pub run_outline-overflow_sub-left : goal.run_outline-overflow_sub-left
-run_outline-overflow_sub-left t c = omega (arith, set_levels _ _ _ (sym c.set_in-o.ensures ∙ c.in-Set.is))
+run_outline-overflow_sub-left t c = omega (arith, set_levels _ _ _ (sym c.set_in.ensures ∙ c.in-Some.is))
 
 pub run_outline-set_outline-place-requires : goal.run_outline-set_outline-place-requires
 run_outline-set_outline-place-requires t c =
-    let l = set_levels _ _ _ (sym c.set_in-o.ensures ∙ c.in-Set.is) in
+    let l = set_levels _ _ _ (sym c.set_in.ensures ∙ c.in-Some.is) in
     (omega (arith, l, c.decreases), omega (arith, l, c.requires))
 
 pub run_outline-loop-k-smaller : goal.run_outline-loop-k-smaller
@@ -39,7 +39,7 @@ pub run_outline-loop-k-preserved : goal.run_outline-loop-k-preserved
 run_outline-loop-k-preserved t c =
     going_open _ _ _ _ _ _ c.loop-k.invariant _ _ (run-item _ _ _ c.step-f.ensures _ _ c.in-Item.is)
     (rw c.label-key.ensures at c.add_item-place.ensures) _
-    (run-set _ _ _ _ (sym (rw c.label-key.ensures at c.set_in-o.ensures) ∙ c.in-Set.is))
+    (run-set _ _ _ _ (sym (rw c.label-key.ensures at c.set_in.ensures) ∙ c.in-Some.is))
     (rw c.bytes.ensures at c.set_outline-place.ensures)
 
 -- A set

@@ -1,5 +1,4 @@
 -- `outline_text::file_outline` meets its contract: its loop adds the text of the records from its place on.
-use Prim.Native.Nat.{◌-◌}
 use mathlib.Core.Path.{refl, sym, ◌∙◌}
 use native.Mathlib.Omega.{arith}
 use Rattle.outline_lines.proofs.Adding.{length-added}
@@ -19,25 +18,25 @@ returns-in_default c =
     let over = walk-over _ _ _ _ c.requires.0 c.step-f.result c.step-f.ensures (opened c.in_default.in_default-own.keys2) in
     going_over _ _ _ _ _ _ c.loop-k.invariant over.0 over.1 refl
 
-pub loop-k-smaller-in_default-o : goal.loop-k-smaller-in_default-o
-loop-k-smaller-in_default-o c =
+pub loop-k-smaller-in_default-set_in : goal.loop-k-smaller-in_default-set_in
+loop-k-smaller-in_default-set_in c =
     let inside = c.requires.0 in
     omega (arith, walk_moves _ _ _ _ _ (walk_record _ _ _ _ inside _ c.step-f.ensures _ _ _ c.in-Record.is))
 
-pub loop-k-preserved-in_default-o : goal.loop-k-preserved-in_default-o
-loop-k-preserved-in_default-o c =
+pub loop-k-preserved-in_default-set_in : goal.loop-k-preserved-in_default-set_in
+loop-k-preserved-in_default-set_in c =
     let inside = c.requires.0 in
     going_leaf _ _ _ _ _ _ c.loop-k.invariant _ _ (walk_record _ _ _ _ inside _ c.step-f.ensures _ _ _ c.in-Record.is)
     (rw c.label-key.ensures at c.add_item-place.ensures)
-    (run-leaf _ _ _ (sym (rw c.label-key.ensures at c.set_in-o.ensures) ∙ c.in_default-o.is))
+    (run-leaf _ _ _ (sym (rw c.label-key.ensures at c.set_in.ensures) ∙ c.in_default-set_in.is))
 
 pub overflow_sub-left : goal.overflow_sub-left
 overflow_sub-left c =
-    omega (arith, set_levels _ _ _ (sym c.set_in-o.ensures ∙ c.in-Set.is))
+    omega (arith, set_levels _ _ _ (sym c.set_in.ensures ∙ c.in-Some.is))
 
 pub set_outline-place-requires : goal.set_outline-place-requires
 set_outline-place-requires c =
-    omega (arith, c.requires, set_levels _ _ _ (sym c.set_in-o.ensures ∙ c.in-Set.is))
+    omega (arith, c.requires, set_levels _ _ _ (sym c.set_in.ensures ∙ c.in-Some.is))
 
 pub loop-k-smaller : goal.loop-k-smaller
 loop-k-smaller c =
@@ -49,5 +48,5 @@ loop-k-preserved c =
     let inside = c.requires.0 in
     going_open _ _ _ _ _ _ c.loop-k.invariant _ _ (walk_record _ _ _ _ inside _ c.step-f.ensures _ _ _ c.in-Record.is)
     (rw c.label-key.ensures at c.add_item-place.ensures) _
-    (run-set _ _ _ _ (sym (rw c.label-key.ensures at c.set_in-o.ensures) ∙ c.in-Set.is))
+    (run-set _ _ _ _ (sym (rw c.label-key.ensures at c.set_in.ensures) ∙ c.in-Some.is))
     (rw c.bytes.ensures at c.set_outline-place.ensures)

@@ -6,4 +6,4 @@ use Rattle.parts.proofs.part.Goals as goal
 pub returns : goal.returns
 returns c =
     let a = c.args in
-    rw (add-sub_cancel_left, c.lesser.ensures, c.lesser-start.ensures) (part_cut a.s.now a.at a.len)
+    rw (add-sub_cancel_left, c.min.ensures, c.min-start.ensures) (part_cut a.s.now a.at a.len)

@@ -24,8 +24,8 @@ overflow_add-at c = omega (arith, whole (goal.at.overflow_add-at c).In-loop-i)
 pub has-requires : goal.has-requires
 has-requires c = whole (goal.at.has-requires c).In-loop-i
 
-pub overflow_add-label : goal.overflow_add-label
-overflow_add-label c = omega (arith, whole (goal.at.overflow_add-label c).In-loop-i)
+pub overflow_add-result : goal.overflow_add-result
+overflow_add-result c = omega (arith, whole (goal.at.overflow_add-result c).In-loop-i)
 
 pub returns-then-has : goal.returns-then-has
 returns-then-has c =

@@ -6,6 +6,3 @@ use Rattle.primer.proofs.find.Given as goal
 
 abbrev pub invariant-loop-i : goal.invariant-loop-i
 invariant-loop-i l = (l.i ≤ entries_in l.s) × (last_of l.s l.tag l.i ≡ entry_of l.s l.tag)
-
-abbrev pub decreases-loop-i : goal.decreases-loop-i
-decreases-loop-i l = l.i

@@ -22,14 +22,14 @@ returns-then-entries-i c = sym (held_none _ _ _ (omega arith) (omega arith))
 pub returns-then-tag_of-tag : goal.returns-then-tag_of-tag
 returns-then-tag_of-tag c = sym (held_other _ _ _ (omega arith) (omega arith) (λ e. c.if-tag_of-tag.true (c.tag_of.ensures.value ∙ e)))
 
-pub overflow_mul-label : goal.overflow_mul-label
-overflow_mul-label c = omega (arith, whole (goal.at.overflow_mul-label c).Else-tag_of-tag)
+pub overflow_mul-result : goal.overflow_mul-result
+overflow_mul-result c = omega (arith, whole (goal.at.overflow_mul-result c).Else-tag_of-tag)
 
-pub overflow_add-label : goal.overflow_add-label
-overflow_add-label c = omega (arith, whole (goal.at.overflow_add-label c).Else-tag_of-tag)
+pub overflow_add-result : goal.overflow_add-result
+overflow_add-result c = omega (arith, whole (goal.at.overflow_add-result c).Else-tag_of-tag)
 
-pub overflow_add-label-2 : goal.overflow_add-label-2
-overflow_add-label-2 c = omega (arith, whole (goal.at.overflow_add-label-2 c).Else-tag_of-tag)
+pub overflow_add-result-2 : goal.overflow_add-result-2
+overflow_add-result-2 c = omega (arith, whole (goal.at.overflow_add-result-2 c).Else-tag_of-tag)
 
 pub returns : goal.returns
 returns c = sym (held_label _ _ _ (omega arith) (omega arith) (sym c.tag_of.ensures.value ∙ c.if-tag_of-tag.false))

@@ -1,9 +1,9 @@
 -- `random_index::pairs_behind` meets its contract: each return is one case of the definition.
+use Rattle.std.specs.Prelude.{Ok}
 use Prim.Native.Nat.{◌+◌}
 use mathlib.Core.Path.{◌≡◌, sym, ◌∙◌}
 use mathlib.Core.Logic.{⊎_elim}
 use native.Mathlib.Omega.{arith}
-use Rattle.lengths.specs.declared.Length.TheVariants.{Is}
 use Rattle.lengths.specs.Length.{length_at}
 use Rattle.lengths.proofs.Laws.{taken}
 use Rattle.lengths.proofs.Enums.{no_is}
@@ -12,7 +12,7 @@ use borrow.Enum.Refused.{opened}
 use Rattle.random_index.proofs.pairs_behind.Goals as goal
 use Rattle.random_index.proofs.pairs_behind.Goals.{In-Is}
 
-is-length : (c : goal.In-Is) → length_at c.args.s.now (c.args.p + 16) ≡ Is c.in-Is.f
+is-length : (c : goal.In-Is) → length_at c.args.s.now (c.args.p + 16) ≡ Ok c.in-Is.f
 is-length c = sym c.read-l.ensures ∙ c.in-Is.is
 
 pub returns-in_default : goal.returns-in_default

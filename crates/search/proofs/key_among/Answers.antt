@@ -5,10 +5,10 @@ use Rattle.search.proofs.Laws.{passes_none, passes-more}
 use Rattle.search.proofs.key_among.Goals as goal
 
 pub loop-k-init : goal.loop-k-init
-loop-k-init c = (omega arith, λ z. passes_none _ _)
+loop-k-init c = λ z. passes_none _ _
 
 pub loop-k-preserved : goal.loop-k-preserved
-loop-k-preserved c = (omega arith, passes-more _ _ _ _ _ c.loop-k.invariant.1 (λ z. sym c.stands-hit.ensures ∙ z))
+loop-k-preserved c = passes-more _ _ _ _ _ c.loop-k.invariant (λ z. sym c.stands-hit.ensures ∙ z)
 
 pub returns : goal.returns
-returns c = let x : c.loop-k.k ≡ 16 = omega arith in rw x at c.loop-k.invariant.1
+returns c = let x : c.loop-k.k ≡ 16 = omega arith in rw x at c.loop-k.invariant

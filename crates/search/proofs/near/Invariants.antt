@@ -1,10 +1,7 @@
 -- `search::near` meets its contract. The loop's invariant: a search passes the places tested.
-use Prim.Native.Nat.{◌+◌, ◌-◌, ◌≤◌}
+use Rattle.std.specs.Prelude.{◌+◌}
 use Rattle.search.specs.Search.{Passes}
 use Rattle.search.proofs.near.Given as goal
 
 abbrev pub invariant-loop-k : goal.invariant-loop-k
-invariant-loop-k l = (l.k ≤ 16) × Passes l.s l.at (l.at + l.k)
-
-abbrev pub decreases-loop-k : goal.decreases-loop-k
-decreases-loop-k l = 16 - l.k
+invariant-loop-k l = Passes l.s l.at (l.at + l.k)

@@ -1,12 +1,9 @@
 -- `search::pair_among` meets its contract. The loop's invariant: where there was no hit, a search passes the places tested.
-use Prim.Native.Nat.{◌+◌, ◌-◌, ◌≤◌}
+use Prim.Native.Nat.{◌+◌}
 use mathlib.Core.Path.{◌≡◌}
 use mathlib.Core.Bool.{false}
 use Rattle.search.specs.Search.{Passes}
 use Rattle.search.proofs.pair_among.Given as goal
 
 abbrev pub invariant-loop-k : goal.invariant-loop-k
-invariant-loop-k l = (l.k ≤ 64) × (l.hit ≡ false → Passes l.s l.at (l.at + l.k))
-
-abbrev pub decreases-loop-k : goal.decreases-loop-k
-decreases-loop-k l = 64 - l.k
+invariant-loop-k l = l.hit ≡ false → Passes l.s l.at (l.at + l.k)

@@ -1,10 +1,7 @@
 -- `search::pass` meets its contract. The loop's invariant: a search passes the blocks of 16 tested.
-use Prim.Native.Nat.{◌+◌, ◌-◌, ◌≤◌}
+use Prim.Native.Nat.{◌+◌, ◌*◌}
 use Rattle.search.specs.Search.{Passes}
 use Rattle.search.proofs.pass.Given as goal
 
 abbrev pub invariant-loop-k : goal.invariant-loop-k
-invariant-loop-k l = (l.k ≤ 64) × Passes l.s l.at (l.at + l.k)
-
-abbrev pub decreases-loop-k : goal.decreases-loop-k
-decreases-loop-k l = 64 - l.k
+invariant-loop-k l = Passes l.s l.at (l.at + 16 * l.k)

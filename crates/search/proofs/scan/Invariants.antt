@@ -1,11 +1,8 @@
 -- `search::scan` meets its contract. The loop's invariant: the search from where it stands is the search that was asked for.
-use Prim.Native.Nat.{◌-◌, ◌≤◌}
+use Rattle.std.specs.Prelude.{◌≤◌}
 use mathlib.Core.Path.{◌≡◌}
 use Rattle.search.specs.Search.{search_from}
 use Rattle.search.proofs.scan.Given as goal
 
 abbrev pub invariant-loop-q : goal.invariant-loop-q
 invariant-loop-q l = (l.q ≤ l.end) × (search_from l.s l.end l.q ≡ search_from l.s l.end l.from)
-
-abbrev pub decreases-loop-q : goal.decreases-loop-q
-decreases-loop-q l = l.end - l.q

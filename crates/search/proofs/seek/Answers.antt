@@ -16,9 +16,9 @@ passed : (c : goal.After-pass-r)
 passed c =
     let e = c.args.end in
     let p = c.pass-r.ensures in
-    let l = c.lesser-at.ensures in
+    let l = c.min-at.ensures in
     let i = c.loop-q.invariant in
-    p.2 e (omega (arith, p.1)) ∙ search_between (key_before c.args.s.now e) e c.args.from c.lesser-at.result c.loop-q.q (omega (arith, i.0)) (omega arith) (omega (arith, i.1)) i.2
+    p.2 e (omega (arith, p.1)) ∙ search_between (key_before c.args.s.now e) e c.args.from c.min-at.result c.loop-q.q (omega (arith, i.0)) (omega arith) (omega (arith, i.1)) i.2
 
 pub returns-then-r-at : goal.returns-then-r-at
 returns-then-r-at c =
@@ -28,29 +28,29 @@ returns-then-r-at c =
     (λ h. let e : c.loop-q.q + c.saturating_sub.result ≡ c.loop-q.q = omega arith in rw e c.loop-q.invariant.2)
     (λ h. let e : c.loop-q.q + c.saturating_sub.result ≡ c.pass-r.result = omega arith in rw e (passed (goal.at.returns-then-r-at c).After-pass-r))
 
-bounds : (c : goal.Else-r-at) → (c.pass-r.result ≡ c.lesser-at.result + 64) × (c.loop-q.q < c.pass-r.result)
+bounds : (c : goal.Else-r-at) → (c.pass-r.result ≡ c.min-at.result + 64) × (c.loop-q.q < c.pass-r.result)
 bounds c =
     let p = c.pass-r.ensures in
-    let l = c.lesser-at.ensures in
+    let l = c.min-at.ensures in
     (omega (arith, p.0, p.1), omega (arith, p.0, p.1, c.loop-q-test.true))
 
 pub loop-q-init : goal.loop-q-init
 loop-q-init c = (omega arith, omega arith, refl)
 
 pub pass-r-requires : goal.pass-r-requires
-pass-r-requires c = omega (arith, c.lesser-at.ensures)
+pass-r-requires c = omega (arith, c.min-at.ensures)
 
 pub overflow_add-at : goal.overflow_add-at
-overflow_add-at c = omega (arith, c.lesser-at.ensures)
+overflow_add-at c = omega (arith, c.min-at.ensures)
 
 pub overflow_add-q : goal.overflow_add-q
 overflow_add-q c = omega (arith, c.saturating_sub.ensures, c.pass-r.ensures.1, c.loop-q.invariant.1)
 
 pub loop-q-smaller : goal.loop-q-smaller
-loop-q-smaller c = omega (arith, (bounds (goal.at.loop-q-smaller c).Else-r-at).0, (bounds (goal.at.loop-q-smaller c).Else-r-at).1, c.lesser-at.ensures)
+loop-q-smaller c = omega (arith, (bounds (goal.at.loop-q-smaller c).Else-r-at).0, (bounds (goal.at.loop-q-smaller c).Else-r-at).1, c.min-at.ensures)
 
 pub loop-q-preserved : goal.loop-q-preserved
-loop-q-preserved c = (omega (arith, (bounds (goal.at.loop-q-preserved c).Else-r-at).1, c.loop-q.invariant.0), omega (arith, (bounds (goal.at.loop-q-preserved c).Else-r-at).0, c.lesser-at.ensures), passed (goal.at.loop-q-preserved c).After-pass-r)
+loop-q-preserved c = (omega (arith, (bounds (goal.at.loop-q-preserved c).Else-r-at).1, c.loop-q.invariant.0), omega (arith, (bounds (goal.at.loop-q-preserved c).Else-r-at).0, c.min-at.ensures), passed (goal.at.loop-q-preserved c).After-pass-r)
 
 pub returns : goal.returns
 returns c = key-none _ _ _ (omega (arith, c.loop-q.invariant.1)) (omega arith) ∙ c.loop-q.invariant.2

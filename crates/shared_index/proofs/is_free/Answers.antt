@@ -20,5 +20,5 @@ pub returns : goal.returns
 returns c =
     let a = c.args in
     let u = ap (λ (f : File). f.used) c.file_of-own.ensures in
-    rw (c.greater-held.ensures, c.file_of-own.ensures, c.file_of-other.ensures)
+    rw (c.max-held.ensures, c.file_of-own.ensures, c.file_of-other.ensures)
     (free_in (file_of a.second a.r).used (held_by (not a.second) a.r) a.r.whole (omega (arith, u, c.if-r-own.false)))

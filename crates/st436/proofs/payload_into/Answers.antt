@@ -10,13 +10,13 @@ returns-then-s-out c =
     let all = put-fitting _ _ _ _ (omega arith) c.put_payload-put.ensures in
     record { result_value = all.0; out_after = all.1 }
 
-pub returns-then-out-n : goal.returns-then-out-n
-returns-then-out-n c =
-    let all = too_long _ _ _ c.length_of-n.ensures (omega arith) in
+pub returns-then-out-needed : goal.returns-then-out-needed
+returns-then-out-needed c =
+    let all = too_long _ _ _ c.length_of-needed.ensures (omega arith) in
     record { result_value = all.0; out_after = all.1 }
 
 pub returns : goal.returns
 returns c =
     let a = c.args in
-    let w = put_whole a.s.now a.out.now _ c.length_of-n.ensures (omega arith) in
+    let w = put_whole a.s.now a.out.now _ c.length_of-needed.ensures (omega arith) in
     record { result_value = w.0; out_after = c.put_payload.ensures.wrote ∙ w.1 }

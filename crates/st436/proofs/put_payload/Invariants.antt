@@ -3,7 +3,7 @@ use Rattle.st436.proofs.Payloads.{Going}
 use Rattle.st436.proofs.put_payload.Given as goal
 
 abbrev pub invariant-loop-line : goal.invariant-loop-line
-invariant-loop-line l = Going l.s l.initial.out l.out l.r l.left l.at
+invariant-loop-line l = Going l.s l.initial.out l.out l.r l.lines.left l.lines.at
 
 abbrev pub decreases-loop-line : goal.decreases-loop-line
-decreases-loop-line l = l.left
+decreases-loop-line l = l.lines.left

@@ -1,4 +1,5 @@
 -- `strict::look` meets its contract: each return is one of a step's cases.
+use Rattle.std.specs.Prelude.{Ok}
 use Prim.Native.Nat.{◌+◌, ◌≤◌, ◌<◌}
 use mathlib.Core.Path.{◌≡◌, sym, ◌∙◌}
 use mathlib.Core.Bool.{true}
@@ -6,7 +7,6 @@ use mathlib.Core.Logic.{⊎_elim}
 use native.Mathlib.Omega.{arith}
 use borrow.Author.Tests.{leb-true, leb-false}
 use Rattle.labels.specs.Label.{key_at}
-use Rattle.lengths.specs.declared.Length.TheVariants.{Is}
 use Rattle.lengths.specs.Length.{length_at}
 use Rattle.lengths.proofs.Laws.{taken}
 use Rattle.lengths.proofs.Enums.{no_is}
@@ -20,7 +20,7 @@ use Rattle.strict.proofs.look.Goals.{Else-not-ends_within, Else-not-key_at, In-I
 is_key : (c : goal.Else-not-key_at) → key_at c.args.s.now c.args.p ≡ true
 is_key c = sym c.key_at.ensures ∙ c.if-not-key_at.false
 
-is-length : (c : goal.In-Is) → length_at c.args.s.now (c.args.p + 16) ≡ Is c.in-Is.f
+is-length : (c : goal.In-Is) → length_at c.args.s.now (c.args.p + 16) ≡ Ok c.in-Is.f
 is-length c = sym c.read-l.ensures ∙ c.in-Is.is
 
 abbrev key_of : (c : goal.In-Is) → key_at c.args.s.now c.args.p ≡ true

@@ -4,8 +4,8 @@ use lib.ListN.{length}
 use Rattle.tally.proofs.Laws.{Going}
 use Rattle.tally.proofs.count_in.Given as goal
 
-abbrev pub invariant-loop-t : goal.invariant-loop-t
-invariant-loop-t l = Going l.s l.initial.firsts l.initial.counts l.firsts l.counts l.t l.at
+abbrev pub invariant-loop-k : goal.invariant-loop-k
+invariant-loop-k l = Going l.s l.initial.firsts l.initial.counts l.firsts l.counts l.t l.c.at
 
-abbrev pub decreases-loop-t : goal.decreases-loop-t
-decreases-loop-t l = length l.s - l.at
+abbrev pub decreases-loop-k : goal.decreases-loop-k
+decreases-loop-k l = length l.s - l.c.at

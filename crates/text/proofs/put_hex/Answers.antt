@@ -4,20 +4,20 @@ use Rattle.text.proofs.Putting.{length-put}
 use Rattle.text.proofs.Digits.{hex_none, hex_next, hex_end}
 use Rattle.text.proofs.put_hex.Goals as goal
 
-pub loop-i-init : goal.loop-i-init
-loop-i-init c = hex_none _ _
+pub loop-b-init : goal.loop-b-init
+loop-b-init c = hex_none _ _
 
 pub hex_digit-requires : goal.hex_digit-requires
-hex_digit-requires c = omega (arith, c.type_inv.s c.loop-i.i)
+hex_digit-requires c = omega (arith, c.type_inv.s c.loop-b.b-index)
 
-pub loop-i-preserved : goal.loop-i-preserved
-loop-i-preserved c =
-    let l = c.loop-i in
-    hex_next _ l.i (omega arith) c.hex_digit.ensures c.hex_digit-in-loop-i.ensures
-    l.invariant c.put_byte-p.ensures c.put_byte-p-in-loop-i.ensures
+pub loop-b-preserved : goal.loop-b-preserved
+loop-b-preserved c =
+    let l = c.loop-b in
+    hex_next _ l.b-index (omega arith) c.hex_digit.ensures c.hex_digit-in-loop-b.ensures
+    l.invariant c.put_byte-p.ensures c.put_byte-p-in-loop-b.ensures
 
 pub shape_of-out : goal.shape_of-out
-shape_of-out c = length-put c.loop-i.invariant
+shape_of-out c = length-put c.loop-b.invariant
 
 pub returns : goal.returns
-returns c = let l = c.loop-i in hex_end _ l.i (omega arith) l.invariant
+returns c = let l = c.loop-b in hex_end _ l.b-index (omega arith) l.invariant

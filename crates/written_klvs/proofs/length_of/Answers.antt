@@ -1,5 +1,4 @@
 -- `written_klvs::length_of` meets its contract. The loop's invariant: what was counted and what is left is the whole.
-use Prim.Native.Nat.{◌-◌}
 use native.Mathlib.Omega.{arith}
 use Rattle.written_klvs.proofs.Going.{Next, step-next, counting-start, counting-end, counting-next}
 use Rattle.written_klvs.proofs.length_of.Goals as goal

@@ -2,14 +2,16 @@
 use mathlib.Core.Path.{◌∙◌}
 use native.Mathlib.Omega.{arith}
 use Rattle.text.proofs.Putting.{length-put}
-use Rattle.written_lengths.proofs.Answers.{into-done}
-use Rattle.written_lengths.proofs.Forms.{form_length}
+use Rattle.written_lengths.proofs.Sizes.{holds-is}
 use Rattle.written_klvs.proofs.Going.{klv-put}
 use Rattle.written_klvs.proofs.put_parts.Goals as goal
 
+pub put_form-requires : goal.put_form-requires
+put_form-requires c =
+    let b = holds-is _ _ c.requires.1 in
+    (b.0, b.1, omega (arith, length-put c.put_all.ensures))
+
 pub returns : goal.returns
 returns c =
-    let done = c.put_length.ensures.output
-    ∙ into-done _ _ _ _ _ c.requires.1 (form_length _ _) (omega (arith, length-put c.put_all.ensures)) in
-    rw (done, c.put_all.ensures.wrote) at c.put_all-2.ensures.wrote
+    rw (c.put_form.ensures, c.put_all.ensures.wrote) at c.put_all-2.ensures.wrote
     ∙ klv-put _ _ _ _ _ c.requires.0

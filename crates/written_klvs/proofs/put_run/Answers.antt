@@ -1,5 +1,4 @@
 -- `written_klvs::put_run` meets its contract. The loop's invariant: what was written, and what is left, is the whole.
-use Prim.Native.Nat.{◌-◌}
 use mathlib.Core.Path.{ap, ◌∙◌}
 use native.Mathlib.Omega.{arith}
 use lib.ListN.{length}

@@ -1,49 +1,31 @@
 -- `written_lengths::bound` meets its contract: each size is one case of the definition.
-use Prim.Native.Nat.{ℕ}
-use mathlib.Core.Path.{◌≡◌, refl}
+use Prim.Native.Nat.{ℕ, zero, suc, ◌-◌, ◌*◌, ◌%◌, ◌^◌, ◌≤◌}
+use mathlib.Core.Path.{◌≡◌, refl, sym}
 use native.Mathlib.Omega.{arith}
 use Rattle.lengths.specs.Length.{bound_of}
+use Rattle.written_lengths.proofs.Sizes.{bound_zero, bound_one}
 use Rattle.written_lengths.proofs.bound.Goals as goal
 
-table :
-    (0 ≡ bound_of 0)
-    × (0x80 ≡ bound_of 1)
-    × (0x100 ≡ bound_of 2)
-    × (0x10000 ≡ bound_of 3)
-    × (0x1000000 ≡ bound_of 4)
-    × (0x100000000 ≡ bound_of 5)
-    × (0x10000000000 ≡ bound_of 6)
-    × (0x1000000000000 ≡ bound_of 7)
-    × (0x100000000000000 ≡ bound_of 8)
+pub returns-in-0 : goal.returns-in-0
+returns-in-0 c = rw c.in-0.is (sym bound_zero)
+
+pub returns-in-1 : goal.returns-in-1
+returns-in-1 c = rw c.in-1.is (sym bound_one)
+
+-- the sizes from 2 to 8, one by one
+shifted : (k : ℕ) → k ≤ 6 → 1 * 2 ^ (8 * suc k) % 2 ^ 64 ≡ bound_of (suc (suc k))
 unfolding bound_of
-table = (refl, refl, refl, refl, refl, refl, refl, refl, refl)
+shifted zero h = refl
+shifted (suc zero) h = refl
+shifted (suc (suc zero)) h = refl
+shifted (suc (suc (suc zero))) h = refl
+shifted (suc (suc (suc (suc zero)))) h = refl
+shifted (suc (suc (suc (suc (suc zero))))) h = refl
+shifted (suc (suc (suc (suc (suc (suc zero)))))) h = refl
+shifted (suc (suc (suc (suc (suc (suc (suc n))))))) h = absurd (omega arith)
 
-is_bound : (size k v : ℕ) → v ≡ bound_of k → size ≡ k → v ≡ bound_of size
-is_bound size k v t e = rw e t
+at_size : (n k : ℕ) → n ≡ suc (suc k) → k ≤ 6 → 1 * 2 ^ (8 * (n - 1)) % 2 ^ 64 ≡ bound_of n
+at_size n k e h = let m : suc (suc k) - 1 ≡ suc k = omega arith in rw (e, m) (shifted k h)
 
-pub returns-then-size-lt1 : goal.returns-then-size-lt1
-returns-then-size-lt1 c = is_bound _ 0 _ table.0 (omega arith)
-
-pub returns-then-size-lt2 : goal.returns-then-size-lt2
-returns-then-size-lt2 c = is_bound _ 1 _ table.1 (omega arith)
-
-pub returns-then-size-lt3 : goal.returns-then-size-lt3
-returns-then-size-lt3 c = is_bound _ 2 _ table.2 (omega arith)
-
-pub returns-then-size-lt4 : goal.returns-then-size-lt4
-returns-then-size-lt4 c = is_bound _ 3 _ table.3 (omega arith)
-
-pub returns-then-size-lt5 : goal.returns-then-size-lt5
-returns-then-size-lt5 c = is_bound _ 4 _ table.4 (omega arith)
-
-pub returns-then-size-lt6 : goal.returns-then-size-lt6
-returns-then-size-lt6 c = is_bound _ 5 _ table.5 (omega arith)
-
-pub returns-then-size-lt7 : goal.returns-then-size-lt7
-returns-then-size-lt7 c = is_bound _ 6 _ table.6 (omega arith)
-
-pub returns-then-size-lt8 : goal.returns-then-size-lt8
-returns-then-size-lt8 c = is_bound _ 7 _ table.7 (omega arith)
-
-pub returns : goal.returns
-returns c = is_bound _ 8 _ table.8 (omega arith)
+pub returns-in_default : goal.returns-in_default
+returns-in_default c = at_size c.args.size (c.args.size - 2) (omega arith) (omega arith)

@@ -1,11 +1,8 @@
 -- `written_lengths::shortest` meets its contract. The loop's invariant: the first size from here on is the first of all.
-use Prim.Native.Nat.{◌-◌, ◌≤◌}
+use Prim.Native.Nat.{◌-◌}
 use mathlib.Core.Path.{◌≡◌}
 use Rattle.written_lengths.specs.Form.{size_from, shortest_size}
 use Rattle.written_lengths.proofs.shortest.Given as goal
 
 abbrev pub invariant-loop-size : goal.invariant-loop-size
-invariant-loop-size l = (1 ≤ l.size) × (l.size ≤ 9) × (shortest_size l.n ≡ size_from (9 - l.size) l.size l.n)
-
-abbrev pub decreases-loop-size : goal.decreases-loop-size
-decreases-loop-size l = 9 - l.size
+invariant-loop-size l = shortest_size l.n ≡ size_from (9 - l.size) l.size l.n

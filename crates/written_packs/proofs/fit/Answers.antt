@@ -1,35 +1,33 @@
 -- `written_packs::fit` meets its contract. The loop's invariant: the fields that are left decide.
-use Prim.Native.Nat.{◌-◌}
-use mathlib.Core.Path.{refl, sym, ◌∙◌}
+use mathlib.Core.Path.{sym, ap}
+use mathlib.Core.Logic.{⊎_elim}
 use native.Mathlib.Omega.{arith}
-use Rattle.canon_groups.specs.Fields.{fields_of}
-use Rattle.written_packs.proofs.Loops.{fitting-other, fits_not, fits_on, fits-done}
+use lib.ListN.{length}
+use Rattle.std.proofs.Common.{rules}
+use Rattle.written_packs.proofs.Loops.{fitting-other, first_narrow, bit_moved, fitting_start, fitting_end, fitting_not, fitting_next}
 use Rattle.written_packs.proofs.fit.Goals as goal
 
-pub returns-then-n-fields : goal.returns-then-n-fields
-returns-then-n-fields c =
-    let a = c.args in
-    sym (fitting-other (fields_of a.id) a.fields.now (λ e. omega (arith, c.count-n.ensures)))
+pub returns-then-fields-table : goal.returns-then-fields-table
+returns-then-fields-table c = sym (fitting-other _ _ (λ e. omega (arith, e, ap length c.fields_of-table.ensures)))
 
-pub returns-then-fields-n : goal.returns-then-fields-n
-returns-then-fields-n c =
-    let a = c.args in
-    sym (fitting-other (fields_of a.id) a.fields.now (λ e. omega (arith, c.count-n.ensures)))
+pub loop-x-init : goal.loop-x-init
+loop-x-init c = fitting_start _ _ _ _ c.requires (omega (arith, ap length c.fields_of-table.ensures)) (search rules) (search rules)
 
-pub loop-i-init : goal.loop-i-init
-loop-i-init c = (omega arith, refl)
+pub returns-then-width-x : goal.returns-then-width-x
+returns-then-width-x c =
+    let s = c.in-Some.ensures.steps in
+    let n = first_narrow _ _ _ s.1 c.loop-x.invariant.within in
+    let b = bit_moved c.in-Some.field-0-1.now.1 (omega (arith, n)) in
+    sym (fitting_not _ _ _ _ c.loop-x.invariant _ _ _ _ s.0 s.1 (omega (arith, b)))
 
-pub returns-then-b-fields : goal.returns-then-b-fields
-returns-then-b-fields c =
-    let a = c.args in
-    sym (c.loop-i.invariant.1 ∙ fits_not a.id a.fields.now c.loop-i.i (omega (arith, c.count-n.ensures)) (omega arith) (omega (arith, c.bound-b.ensures)))
-
-pub loop-i-preserved : goal.loop-i-preserved
-loop-i-preserved c =
-    let a = c.args in
-    (omega arith, c.loop-i.invariant.1 ∙ fits_on a.id a.fields.now c.loop-i.i (omega (arith, c.count-n.ensures)) (omega arith) (omega (arith, c.bound-b.ensures)))
+pub loop-x-preserved : goal.loop-x-preserved
+loop-x-preserved c =
+    let s = c.in-Some.ensures.steps in
+    let n = first_narrow _ _ _ s.1 c.loop-x.invariant.within in
+    let b = bit_moved c.in-Some.field-0-1.now.1 (omega (arith, n)) in
+    fitting_next _ _ _ _ c.loop-x.invariant _ _ _ _ s.0 s.1 (omega (arith, b))
 
 pub returns : goal.returns
 returns c =
-    let a = c.args in
-    sym (c.loop-i.invariant.1 ∙ fits-done a.id a.fields.now c.loop-i.i (omega (arith, c.count-n.ensures)) (omega (arith, c.count-n.ensures)) (omega (arith, c.count-n.ensures)))
+    let i = c.loop-x.invariant in
+    sym (fitting_end _ _ _ _ i (⊎_elim (λ h. h.1.0) (λ h. omega (arith, h.1.0, i.as_many)) c.in-None.ensures.steps))

@@ -1,41 +1,24 @@
 -- `written_packs::sum` meets its contract. The loop's invariant: what was added and the fields that are left make the whole.
-use Prim.Native.Nat.{◌-◌}
-use mathlib.Core.Path.{◌≡◌, ◌∙◌}
+use mathlib.Core.Logic.{⊎_elim}
 use native.Mathlib.Omega.{arith}
-use lib.ListN.{length}
-use Rattle.written_packs.proofs.Loops.{fitting-length, sum_end, Adding, adding}
+use Rattle.std.proofs.Common.{rules}
+use Rattle.written_packs.proofs.Loops.{adding_start, adding_end, adding_room, adding_next}
 use Rattle.written_packs.proofs.sum.Goals as goal
-use Rattle.written_packs.proofs.sum.Goals.{After-unit-u}
 
--- what adding the next one does
-adding-of : (c : goal.After-unit-u) → Adding c.args.id c.args.fields.now c.loop-i.v c.loop-i.i c.unit-u.result
-adding-of c =
-    let p = c.requires in
-    adding _ _ _ _ _ p.0 p.1 p.2 c.loop-i.invariant.1 (omega (arith, c.count-n.ensures)) c.unit-u.ensures
+pub loop-x-init : goal.loop-x-init
+loop-x-init c = adding_start _ _ _ _ c.requires.0 c.requires.1 c.requires.2 (search rules) (search rules)
 
--- there are as many numbers as fields
-long : (c : goal.After-unit-u) → c.count-n.result ≡ length c.args.fields.now
-long c = c.count-n.ensures ∙ fitting-length _ _ c.requires.2
+pub overflow_add-sum : goal.overflow_add-sum
+overflow_add-sum c =
+    let s = c.in-Some.ensures.steps in
+    omega (arith, adding_room _ _ _ _ _ c.loop-x.invariant _ _ _ _ s.0 s.1)
 
-pub loop-i-init : goal.loop-i-init
-loop-i-init c = (omega arith, omega arith)
-
-pub offset_bounds-fields-i : goal.offset_bounds-fields-i
-offset_bounds-fields-i c = omega (arith, long (goal.at.offset_bounds-fields-i c).After-unit-u)
-
-pub bounds-fields-i : goal.bounds-fields-i
-bounds-fields-i c = omega (arith, long (goal.at.bounds-fields-i c).After-unit-u)
-
-pub overflow_mul-x : goal.overflow_mul-x
-overflow_mul-x c = omega (arith, adding-of (goal.at.overflow_mul-x c).After-unit-u)
-
-pub overflow_add-v : goal.overflow_add-v
-overflow_add-v c = omega (arith, adding-of (goal.at.overflow_add-v c).After-unit-u)
-
-pub loop-i-preserved : goal.loop-i-preserved
-loop-i-preserved c = (omega arith, (adding-of (goal.at.loop-i-preserved c).After-unit-u).rest)
+pub loop-x-preserved : goal.loop-x-preserved
+loop-x-preserved c =
+    let s = c.in-Some.ensures.steps in
+    adding_next _ _ _ _ _ c.loop-x.invariant _ _ _ _ s.0 s.1
 
 pub returns : goal.returns
 returns c =
-    let a = c.args in
-    omega (arith, c.loop-i.invariant.1, sum_end a.id a.fields.now c.loop-i.i (omega (arith, c.count-n.ensures)))
+    let i = c.loop-x.invariant in
+    adding_end _ _ _ _ _ i (⊎_elim (λ h. h.1.0) (λ h. omega (arith, h.1.0, i.as_many)) c.in-None.ensures.steps)

@@ -1,30 +1,41 @@
 -- `written_tables::put_primer` meets its contract: each return is one of a writer's answers.
-use mathlib.Core.Path.{sym, ◌∙◌}
+use Prim.Native.Nat.{◌+◌, ◌*◌}
+use mathlib.Core.Path.{◌≡◌, sym, ◌∙◌}
 use mathlib.Core.Bool.{true, false}
 use native.Mathlib.Omega.{arith}
+use lib.ListN.{length}
+use Rattle.std.proofs.Common.{rules}
+use Rattle.std.specs.Prelude.{Err}
 use Rattle.written_numbers.proofs.Written.{placed-there}
+use Rattle.written_lengths.specs.declared.WriteError.TheVariants.{Longer}
 use Rattle.written_lengths.proofs.Answers.{wrote-field, wrote-longer, wrote-done}
 use Rattle.written_tables.proofs.Primers.{good_many, good_labels, good_by, primer_length, primer_put}
 use Rattle.written_tables.proofs.put_primer.Goals as goal
+use Rattle.written_tables.proofs.put_primer.Goals.{then-n-gt4294967295-via-then-n-gt4294967295, then-n-gt4294967295-via-else-n-gt4294967295+then-labels-n, then-n-gt4294967295-via-else-n-gt4294967295+else-labels-n+then-not-tags_fit}
 
 pub returns-then-n-gt4294967295 : goal.returns-then-n-gt4294967295
-returns-then-n-gt4294967295 c = wrote-field _ _ _ _ (good_many _ _ (omega arith))
+returns-then-n-gt4294967295 c =
+    wrote-field _ _ _ _
+    (elim c.then-n-gt4294967295.branch [
+      | then-n-gt4294967295-via-then-n-gt4294967295 w ↦ good_many _ _ (omega arith)
+      | then-n-gt4294967295-via-else-n-gt4294967295+then-labels-n w ↦ good_labels _ _ (omega arith) (λ e. omega arith)
+      | then-n-gt4294967295-via-else-n-gt4294967295+else-labels-n+then-not-tags_fit w ↦
+          good_by _ _ (omega arith) (omega arith) false (sym w.tags_fit.ensures ∙ w.if-not-tags_fit.true)
+    ])
 
-pub returns-then-labels-n : goal.returns-then-labels-n
-returns-then-labels-n c = wrote-field _ _ _ _ (good_labels _ _ (omega arith) (λ e. omega arith))
-
-pub returns-then-not-tags_fit : goal.returns-then-not-tags_fit
-returns-then-not-tags_fit c = wrote-field _ _ _ _ (good_by _ _ (omega arith) (omega arith) false (sym c.tags_fit.ensures ∙ c.if-not-tags_fit.true))
-
-pub returns-then-saturating_sub-needed : goal.returns-then-saturating_sub-needed
-returns-then-saturating_sub-needed c =
-    wrote-longer _ _ _ _ _ (good_by _ _ (omega arith) (omega arith) true (sym c.tags_fit.ensures ∙ c.if-not-tags_fit.false))
-    (primer_length _ _ (omega arith)) (omega arith)
+pub returns-in_err-next : goal.returns-in_err-next
+returns-in_err-next c =
+    let e : c.from_residual.result ≡ Err (Longer (8 + 18 * length c.args.tags.now)) = search rules in
+    rw e
+    (wrote-longer _ _ _ _ _ (good_by _ _ (omega arith) (omega arith) true (sym c.tags_fit.ensures ∙ c.if-not-tags_fit.false))
+    (primer_length _ _ (omega arith)) c.in_err-next.ensures.0)
 
 pub returns : goal.returns
 returns c =
+    let room = c.in_ok-next.ensures.0 in
     let one = c.put_number.ensures ∙ placed-there _ _ _ _ (omega arith) in
     let two = c.put_number-2.ensures ∙ placed-there _ _ _ _ (omega arith) in
-    wrote-done _ _ _ _ _ (good_by _ _ (omega arith) (omega arith) true (sym c.tags_fit.ensures ∙ c.if-not-tags_fit.false))
-    (primer_length _ _ (omega arith)) (omega arith) _
-    (rw (two, one) at c.put_entries.ensures ∙ primer_put _ _ _ _)
+    rw c.in_ok-next.ensures.1
+    (wrote-done _ _ _ _ _ (good_by _ _ (omega arith) (omega arith) true (sym c.tags_fit.ensures ∙ c.if-not-tags_fit.false))
+    (primer_length _ _ (omega arith)) room _
+    (rw (two, one) at c.put_entries.ensures ∙ primer_put _ _ _ _))

@@ -7,8 +7,8 @@ use Rattle.st436.proofs.Lines.step.Goals as goal
 pub returns-then-self-eq0 : goal.returns-then-self-eq0
 returns-then-self-eq0 c = sym (step-over _ _ _ c.if-self-eq0.true)
 
-pub returns-in_default : goal.returns-in_default
-returns-in_default c = sym (step_bad _ _ _ (sym (rw c.in_default.is at c.line_at-w.ensures)))
+pub returns-in_err-line : goal.returns-in_err-line
+returns-in_err-line c = rw c.from_residual.ensures (sym (step_bad _ _ _ (sym c.in_err-line.ensures)))
 
 pub returns : goal.returns
-returns c = sym (step_line _ _ _ _ _ (omega arith) (sym (rw c.in-Is.is at c.line_at-w.ensures)))
+returns c = sym (step_line _ _ _ _ _ (omega arith) (sym c.in_ok-line.ensures))
