@@ -30,6 +30,7 @@ fn of_single(v: Option<f32>) -> Option<Said>
     Some(Said::Single(floats::f32_bits(v?)))
 }
 
+// Not one generic function with `of_single`: it would take the bits' function and the kind, which is all that each line says.
 fn of_double(v: Option<f64>) -> Option<Said>
     ensures { result ≡ of_double v }
 {

@@ -95,7 +95,8 @@ pub fn single_thousandths(usable: bool, v: u32) -> Option<f32>
     }
 }
 
-// v thousandths in f64, where v is usable.
+// v thousandths in f64, where v is usable. No generic function serves both: in f32 v is rounded before it is divided, and here the
+// division alone rounds.
 pub fn double_thousandths(usable: bool, v: u32) -> Option<f64>
     ensures { result ≡ double_thousandths usable v }
 {

@@ -12,7 +12,7 @@ use host_frame_places::put_values;
 use take_frames::{Kind, Recorder};
 use takes::Takes;
 
-// What differs, the side that has it, and the fields that differ, by numbers.
+// What differs, the side that has it, and the fields that differ, by numbers, as the C interface hands them out.
 #[derive(Clone, Copy)]
 pub struct What {
     pub what: u64,
