@@ -12,22 +12,19 @@ ghost use Rattle.arri_alexa35.specs.Alexa.{alexa_of};
 use arri_alexa35_items::number_in;
 use arri_alexa35_values::{Values, frame_of, none, values_on};
 use frame_values::Frame;
-use items::{Run, RunNext};
+use items::Run;
 
 // What a set's items leave of the values.
 fn after_set(values: Values, set: &[u8]) -> Values
     ensures { result ≡ after values_on values (in_set set.now) }
 {
     let mut k = values;
-    let mut at = 0;
-    loop {
-        let step = Run { at }.step(set);
-        let RunNext::Item(i, next) = step else {
-            return k;
-        };
+    let mut items = Run { at: 0 };
+    while let Some((i, next)) = items.step(set) {
         k = values_on(k, number_in(i.label(set)), i.bytes(set));
-        at = next.at;
+        items = next;
     }
+    k
 }
 
 // The values of a frame by its element.
@@ -35,13 +32,10 @@ pub fn of_alexa35(element: &[u8]) -> Frame
     ensures { result ≡ alexa_of element.now }
 {
     let mut k = none();
-    let mut at = 0;
-    loop {
-        let step = Run { at }.step(element);
-        let RunNext::Item(i, next) = step else {
-            return frame_of(k);
-        };
+    let mut sets = Run { at: 0 };
+    while let Some((i, next)) = sets.step(element) {
         k = after_set(k, i.bytes(element));
-        at = next.at;
+        sets = next;
     }
+    frame_of(k)
 }

@@ -6,7 +6,7 @@
 ghost use Rattle.std.specs.Prelude.{◌≡◌};
 ghost use Rattle.arri_alexa35_items.specs.Kinds.{number_in, float_in, positive_in, focal_length_in, effective_in, t_stop_in, metres_of, distance_of, distance_in, rational_in, rate_in, exposure_in, whole_in, low_in, tint_of, density_of};
 
-use frame_values::{Distance, Double, Single, TStop, Whole32, Whole64, positive};
+use frame_values::{Distance, TStop, positive};
 use labels::begins;
 use parts::{four_at, number, part, two_at};
 
@@ -19,20 +19,20 @@ pub fn number_in(key: &[u8]) -> u64
 {
     if begins(&labels::KEY_START, key) {
         if begins(&ARRI_ITEMS, part(key, 8, 4)) {
-            return two_at(key, 12) as u64;
+            return u64::from(two_at(key, 12));
         }
     }
     0
 }
 
 // The f32, where it is finite.
-pub fn float_in(v: &[u8]) -> Single
+pub fn float_in(v: &[u8]) -> Option<f32>
     ensures { result ≡ float_in v.now }
 {
     if v.len() == 4 {
         frame_values::float_of(four_at(v, 0))
     } else {
-        Single::Nothing
+        None
     }
 }
 
@@ -44,27 +44,27 @@ fn positive_in(v: &[u8]) -> bool
 }
 
 // The focal length in mm.
-pub fn focal_length_in(v: &[u8]) -> Single
+pub fn focal_length_in(v: &[u8]) -> Option<f32>
     ensures { result ≡ focal_length_in v.now }
 {
     frame_values::single_thousandths(positive_in(v), four_at(v, 0))
 }
 
 // The effective focal length in mm.
-pub fn effective_in(v: &[u8]) -> Double
+pub fn effective_in(v: &[u8]) -> Option<f64>
     ensures { result ≡ effective_in v.now }
 {
     frame_values::double_thousandths(positive_in(v), four_at(v, 0))
 }
 
 // The T-stop's number on the linear scale.
-pub fn t_stop_in(v: &[u8]) -> TStop
+pub fn t_stop_in(v: &[u8]) -> Option<TStop>
     ensures { result ≡ t_stop_in v.now }
 {
     if positive_in(v) {
-        TStop::Linear(four_at(v, 0))
+        Some(TStop::Linear(four_at(v, 0)))
     } else {
-        TStop::Nothing
+        None
     }
 }
 
@@ -80,27 +80,27 @@ fn metres_of(imperial: bool, n: u32) -> f32
 }
 
 // The distance by its number.
-fn distance_of(imperial: bool, n: u32) -> Distance
+fn distance_of(imperial: bool, n: u32) -> Option<Distance>
     ensures { result ≡ distance_of imperial n }
 {
     if n == 0xffff_ffff {
-        return Distance::Infinity;
+        return Some(Distance::Infinity);
     }
     if positive(n) {
-        Distance::Metres(metres_of(imperial, n))
+        Some(Distance::Metres(metres_of(imperial, n)))
     } else {
-        Distance::Nothing
+        None
     }
 }
 
 // The distance, in thousandths of an inch or in millimetres.
-pub fn distance_in(imperial: bool, v: &[u8]) -> Distance
+pub fn distance_in(imperial: bool, v: &[u8]) -> Option<Distance>
     ensures { result ≡ distance_in imperial v.now }
 {
     if v.len() == 4 {
         distance_of(imperial, four_at(v, 0))
     } else {
-        Distance::Nothing
+        None
     }
 }
 
@@ -112,66 +112,56 @@ fn rational_in(v: &[u8]) -> bool
 }
 
 // The rational as an f64.
-pub fn rate_in(v: &[u8]) -> Double
+pub fn rate_in(v: &[u8]) -> Option<f64>
     ensures { result ≡ rate_in v.now }
 {
     if rational_in(v) {
-        Double::Is(floats::ratio(four_at(v, 0), four_at(v, 4)))
+        Some(floats::ratio(four_at(v, 0), four_at(v, 4)))
     } else {
-        Double::Nothing
+        None
     }
 }
 
 // The rational of seconds in milliseconds.
-pub fn exposure_in(v: &[u8]) -> Double
+pub fn exposure_in(v: &[u8]) -> Option<f64>
     ensures { result ≡ exposure_in v.now }
 {
     if rational_in(v) {
-        Double::Is(floats::milliseconds(four_at(v, 0), four_at(v, 4)))
+        Some(floats::milliseconds(four_at(v, 0), four_at(v, 4)))
     } else {
-        Double::Nothing
+        None
     }
 }
 
 // The whole number of at most 8 bytes.
-pub fn whole_in(v: &[u8]) -> Whole64
+pub fn whole_in(v: &[u8]) -> Option<u64>
     ensures { result ≡ whole_in v.now }
 {
-    if v.len() <= 8 {
-        Whole64::Is(number(v))
-    } else {
-        Whole64::Nothing
-    }
+    if v.len() <= 8 { Some(number(v)) } else { None }
 }
 
 // The low 32 bits of the whole number of at most 8 bytes.
-pub fn low_in(v: &[u8]) -> Whole32
+pub fn low_in(v: &[u8]) -> Option<u32>
     ensures { result ≡ low_in v.now }
 {
     if v.len() <= 8 {
         let low = number(v) % 0x1_0000_0000;
-        Whole32::Is(low as u32)
+        Some(low as u32)
     } else {
-        Whole32::Nothing
+        None
     }
 }
 
 // The white balance's tint by its f32.
-pub fn tint_of(x: Single) -> Double
+pub fn tint_of(x: Option<f32>) -> Option<f64>
     ensures { result ≡ tint_of x }
 {
-    let Single::Is(f) = x else {
-        return Double::Nothing;
-    };
-    Double::Is(floats::widen(f))
+    Some(floats::widen(x?))
 }
 
 // The ND filter's density by its f32.
-pub fn density_of(x: Single) -> Double
+pub fn density_of(x: Option<f32>) -> Option<f64>
     ensures { result ≡ density_of x }
 {
-    let Single::Is(f) = x else {
-        return Double::Nothing;
-    };
-    Double::Is(floats::density(f))
+    Some(floats::density(x?))
 }

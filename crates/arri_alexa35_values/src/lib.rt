@@ -4,45 +4,45 @@
 #![tactic(auto)]
 
 ghost use Rattle.std.specs.Prelude.{◌≡◌};
-ghost use Rattle.arri_alexa35_values.specs.Said.{said, distance_or};
+ghost use Rattle.arri_alexa35_values.specs.Said.{said};
 ghost use Rattle.arri_alexa35_values.specs.Values.{orientation_on, lens_on, encoders_on, capture_on, values_on, none, frame_of};
 
 use arri_alexa35_items::{
     density_of, distance_in, effective_in, exposure_in, float_in, focal_length_in, low_in, rate_in,
     t_stop_in, tint_of, whole_in,
 };
-use frame_values::{Distance, Double, Encoders, Factors, Frame, Single, TStop, Whole32, Whole64};
+use frame_values::{Distance, Encoders, Frame, TStop};
 
 // The camera's position and orientation, set 0c.
-#[derive(Clone, Copy)]
+#[derive(Clone, Copy, Debug, PartialEq)]
 pub struct Orientation {
-    pub tilt: Single,
-    pub roll: Single,
+    pub tilt: Option<f32>,
+    pub roll: Option<f32>,
 }
 
 // The lens's configuration, set 0d, but for the encoders.
-#[derive(Clone, Copy)]
+#[derive(Clone, Copy, Debug, PartialEq)]
 pub struct Lens {
-    pub metric: Distance,
-    pub imperial: Distance,
-    pub t_stop: TStop,
-    pub focal_length: Single,
-    pub effective: Double,
+    pub metric: Option<Distance>,
+    pub imperial: Option<Distance>,
+    pub t_stop: Option<TStop>,
+    pub focal_length: Option<f32>,
+    pub effective: Option<f64>,
 }
 
 // The frame's capture, set 0e.
-#[derive(Clone, Copy)]
+#[derive(Clone, Copy, Debug, PartialEq)]
 pub struct Capture {
-    pub exposure_time: Double,
-    pub exposure_index: Whole32,
-    pub white_balance: Whole32,
-    pub tint: Double,
-    pub sensor_rate: Double,
-    pub nd_density: Double,
+    pub exposure_time: Option<f64>,
+    pub exposure_index: Option<u32>,
+    pub white_balance: Option<u32>,
+    pub tint: Option<f64>,
+    pub sensor_rate: Option<f64>,
+    pub nd_density: Option<f64>,
 }
 
 // The values so far.
-#[derive(Clone, Copy)]
+#[derive(Clone, Copy, Debug, PartialEq)]
 pub struct Values {
     pub orientation: Orientation,
     pub lens: Lens,
@@ -50,153 +50,74 @@ pub struct Values {
     pub capture: Capture,
 }
 
-// The first of two distances that is there.
-fn distance_or(x: Distance, other: Distance) -> Distance
-    ensures { result ≡ distance_or x other }
-{
-    match x {
-        Distance::Metres(_) => x,
-        Distance::Infinity => x,
-        Distance::Nothing => other,
-    }
-}
-
 // What an item of the number and the value leaves of the orientation.
-fn orientation_on(k: Orientation, n: u64, v: &[u8]) -> Orientation
+fn orientation_on(mut k: Orientation, n: u64, v: &[u8]) -> Orientation
     ensures { result ≡ orientation_on k (said n v.now) }
 {
-    let mut tilt = k.tilt;
-    let mut roll = k.roll;
     match n {
-        0x0c03 => tilt = float_in(v),
-        0x0c04 => roll = float_in(v),
+        0x0c03 => k.tilt = float_in(v),
+        0x0c04 => k.roll = float_in(v),
         _ => {}
     }
-    Orientation { tilt, roll }
+    k
 }
 
 // What it leaves of the lens's configuration.
-fn lens_on(k: Lens, n: u64, v: &[u8]) -> Lens
+fn lens_on(mut k: Lens, n: u64, v: &[u8]) -> Lens
     ensures { result ≡ lens_on k (said n v.now) }
 {
-    let mut metric = k.metric;
-    let mut imperial = k.imperial;
-    let mut t_stop = k.t_stop;
-    let mut focal_length = k.focal_length;
-    let mut effective = k.effective;
     match n {
-        0x0d01 => metric = distance_in(false, v),
-        0x0d02 => imperial = distance_in(true, v),
-        0x0d03 => t_stop = t_stop_in(v),
-        0x0d05 => focal_length = focal_length_in(v),
-        0x0d06 => {
-            let found = effective_in(v);
-            if let Double::Is(_) = found {
-                effective = found;
-            }
-        }
+        0x0d01 => k.metric = distance_in(false, v),
+        0x0d02 => k.imperial = distance_in(true, v),
+        0x0d03 => k.t_stop = t_stop_in(v),
+        0x0d05 => k.focal_length = focal_length_in(v),
+        0x0d06 => k.effective = effective_in(v).or(k.effective),
         _ => {}
     }
-    Lens {
-        metric,
-        imperial,
-        t_stop,
-        focal_length,
-        effective,
-    }
+    k
 }
 
 // What it leaves of the encoders, in this camera's order: focus, iris, zoom.
-fn encoders_on(k: Encoders, n: u64, v: &[u8]) -> Encoders
+fn encoders_on(mut k: Encoders, n: u64, v: &[u8]) -> Encoders
     ensures { result ≡ encoders_on k (said n v.now) }
 {
-    if n < 0x0d07 {
-        return k;
-    }
-    if 0x0d0c < n {
-        return k;
-    }
-    let found = whole_in(v);
-    let Whole64::Is(_) = found else {
-        return k;
-    };
-    let mut focus_lds = k.focus_lds;
-    let mut focus_motor = k.focus_motor;
-    let mut iris_lds = k.iris_lds;
-    let mut iris_motor = k.iris_motor;
-    let mut zoom_lds = k.zoom_lds;
-    let mut zoom_motor = k.zoom_motor;
     match n {
-        0x0d07 => focus_lds = found,
-        0x0d08 => focus_motor = found,
-        0x0d09 => iris_lds = found,
-        0x0d0a => iris_motor = found,
-        0x0d0b => zoom_lds = found,
-        0x0d0c => zoom_motor = found,
+        0x0d07 => k.focus_lds = whole_in(v).or(k.focus_lds),
+        0x0d08 => k.focus_motor = whole_in(v).or(k.focus_motor),
+        0x0d09 => k.iris_lds = whole_in(v).or(k.iris_lds),
+        0x0d0a => k.iris_motor = whole_in(v).or(k.iris_motor),
+        0x0d0b => k.zoom_lds = whole_in(v).or(k.zoom_lds),
+        0x0d0c => k.zoom_motor = whole_in(v).or(k.zoom_motor),
         _ => {}
     }
-    Encoders {
-        focus_lds,
-        focus_motor,
-        iris_lds,
-        iris_motor,
-        zoom_lds,
-        zoom_motor,
-    }
+    k
 }
 
 // What it leaves of the frame's capture.
-fn capture_on(k: Capture, n: u64, v: &[u8]) -> Capture
+fn capture_on(mut k: Capture, n: u64, v: &[u8]) -> Capture
     ensures { result ≡ capture_on k (said n v.now) }
 {
-    let mut exposure_time = k.exposure_time;
-    let mut exposure_index = k.exposure_index;
-    let mut white_balance = k.white_balance;
-    let mut tint = k.tint;
-    let mut sensor_rate = k.sensor_rate;
-    let mut nd_density = k.nd_density;
     match n {
-        0x0e01 => exposure_time = exposure_in(v),
-        0x0e03 => exposure_index = low_in(v),
-        0x0e05 => white_balance = low_in(v),
-        0x0e06 => {
-            let found = tint_of(float_in(v));
-            if let Double::Is(_) = found {
-                tint = found;
-            }
-        }
-        0x0e07 => {
-            let found = rate_in(v);
-            if let Double::Is(_) = found {
-                sensor_rate = found;
-            }
-        }
-        0x0e08 => nd_density = density_of(float_in(v)),
+        0x0e01 => k.exposure_time = exposure_in(v),
+        0x0e03 => k.exposure_index = low_in(v),
+        0x0e05 => k.white_balance = low_in(v),
+        0x0e06 => k.tint = tint_of(float_in(v)).or(k.tint),
+        0x0e07 => k.sensor_rate = rate_in(v).or(k.sensor_rate),
+        0x0e08 => k.nd_density = density_of(float_in(v)),
         _ => {}
     }
-    Capture {
-        exposure_time,
-        exposure_index,
-        white_balance,
-        tint,
-        sensor_rate,
-        nd_density,
-    }
+    k
 }
 
 // What it leaves of the values.
 pub fn values_on(k: Values, n: u64, v: &[u8]) -> Values
     ensures { result ≡ values_on k (said n v.now) }
 {
-    let orientation = k.orientation;
-    let lens = k.lens;
-    let encoders = k.encoders;
-    let capture = k.capture;
     Values {
-        orientation: orientation_on(orientation, n, v),
-        lens: lens_on(lens, n, v),
-        encoders: encoders_on(encoders, n, v),
-        capture: capture_on(capture, n, v),
+        orientation: orientation_on(k.orientation, n, v),
+        lens: lens_on(k.lens, n, v),
+        encoders: encoders_on(k.encoders, n, v),
+        capture: capture_on(k.capture, n, v),
     }
 }
 
@@ -206,31 +127,31 @@ pub fn none() -> Values
 {
     Values {
         orientation: Orientation {
-            tilt: Single::Nothing,
-            roll: Single::Nothing,
+            tilt: None,
+            roll: None,
         },
         lens: Lens {
-            metric: Distance::Nothing,
-            imperial: Distance::Nothing,
-            t_stop: TStop::Nothing,
-            focal_length: Single::Nothing,
-            effective: Double::Nothing,
+            metric: None,
+            imperial: None,
+            t_stop: None,
+            focal_length: None,
+            effective: None,
         },
         encoders: Encoders {
-            focus_lds: Whole64::Nothing,
-            focus_motor: Whole64::Nothing,
-            zoom_lds: Whole64::Nothing,
-            zoom_motor: Whole64::Nothing,
-            iris_lds: Whole64::Nothing,
-            iris_motor: Whole64::Nothing,
+            focus_lds: None,
+            focus_motor: None,
+            zoom_lds: None,
+            zoom_motor: None,
+            iris_lds: None,
+            iris_motor: None,
         },
         capture: Capture {
-            exposure_time: Double::Nothing,
-            exposure_index: Whole32::Nothing,
-            white_balance: Whole32::Nothing,
-            tint: Double::Nothing,
-            sensor_rate: Double::Nothing,
-            nd_density: Double::Nothing,
+            exposure_time: None,
+            exposure_index: None,
+            white_balance: None,
+            tint: None,
+            sensor_rate: None,
+            nd_density: None,
         },
     }
 }
@@ -239,37 +160,22 @@ pub fn none() -> Values
 pub fn frame_of(k: Values) -> Frame
     ensures { result ≡ frame_of k }
 {
-    let orientation = k.orientation;
-    let tilt = orientation.tilt;
-    let roll = orientation.roll;
     let lens = k.lens;
-    let metric = lens.metric;
-    let imperial = lens.imperial;
-    let t_stop = lens.t_stop;
-    let focal_length = lens.focal_length;
-    let effective_focal_length = lens.effective;
-    let encoders = k.encoders;
     let capture = k.capture;
-    let exposure_time = capture.exposure_time;
-    let exposure_index = capture.exposure_index;
-    let white_balance = capture.white_balance;
-    let tint = capture.tint;
-    let sensor_rate = capture.sensor_rate;
-    let nd_density = capture.nd_density;
     Frame {
-        focal_length,
-        focus_distance: distance_or(metric, imperial),
-        t_stop,
-        exposure_time,
-        shutter_angle: Single::Nothing,
-        tilt_roll: frame_values::tilt_roll_of(tilt, roll),
-        exposure_index,
-        white_balance,
-        nd_density,
-        effective_focal_length,
-        white_balance_factors: Factors::Nothing,
-        encoders,
-        tint,
-        sensor_rate,
+        focal_length: lens.focal_length,
+        focus_distance: lens.metric.or(lens.imperial),
+        t_stop: lens.t_stop,
+        exposure_time: capture.exposure_time,
+        shutter_angle: None,
+        tilt_roll: frame_values::tilt_roll_of(k.orientation.tilt, k.orientation.roll),
+        exposure_index: capture.exposure_index,
+        white_balance: capture.white_balance,
+        nd_density: capture.nd_density,
+        effective_focal_length: lens.effective,
+        white_balance_factors: None,
+        encoders: k.encoders,
+        tint: capture.tint,
+        sensor_rate: capture.sensor_rate,
     }
 }

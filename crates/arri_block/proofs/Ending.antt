@@ -8,38 +8,38 @@ use lib.ListN.{length, take, drop, length-take, length-drop}
 use lib.Dec.{T, leb, leb→le, eqb}
 use Rattle.steps.specs.Told.{Told, found, nothing, refused}
 use Rattle.steps.specs.Listed.{before, at_most, list_from}
-use Rattle.parts.specs.Answer.{Answer, is, none}
+use Rattle.std.specs.Prelude.{Option, Some, None}
+use Rattle.std.specs.Option.{option_or}
 use Rattle.parts.proofs.Parts.{part_length}
 use Rattle.labels.specs.Label.{same_label}
 use Rattle.klv.specs.declared.Klv.{Klv}
 use Rattle.klv.specs.Item.{Item, tag_of, value_of}
 use Rattle.items.specs.Items.{item_step, run_of, items_of}
 use Rattle.items.proofs.Laws.{item-fits}
-use Rattle.arri_block.specs.Block.{lens_unit_set, placed_at, or_else, first_of, first_bytes, in_items, in_set, in_run_item, in_run, in_element_item, block_of, bytes_of, Ends}
+use Rattle.arri_block.specs.Block.{lens_unit_set, placed_at, first_of, first_bytes, in_items, in_set, in_run_item, in_run, in_element_item, block_of, bytes_of, Ends}
 
-no_block : {e : ℕ} → Ends none e
+no_block : {e : ℕ} → Ends None e
 no_block p z = absurd (let y : ◌≡◌ {A = ℕ} 0 1 = cc in omega arith)
 
-cond-ends : (t : Bool) (a b : Answer ℕ) (e : ℕ) → Ends a e → Ends b e → Ends (cond t a b) e
+cond-ends : (t : Bool) (a b : Option ℕ) (e : ℕ) → Ends a e → Ends b e → Ends (cond t a b) e
 cond-ends true a b e x y = x
 cond-ends false a b e x y = y
 
-or_ends : (a b : Answer ℕ) (e : ℕ) → Ends a e → Ends b e → Ends (or_else a b) e
-unfolding or_else
-or_ends (is p) b e x y = x
-or_ends none b e x y = y
+or_ends : (a b : Option ℕ) (e : ℕ) → Ends a e → Ends b e → Ends (option_or a b) e
+or_ends (Some p) b e x y = x
+or_ends None b e x y = y
 
 -- of a part, seen from the whole
-pub part_ends : (s : List ℕ) (from n : ℕ) (b : Answer ℕ) → from ≤ length s → Ends b (length (take n (drop from s))) → Ends (placed_at from b) (length s)
+pub part_ends : (s : List ℕ) (from n : ℕ) (b : Option ℕ) → from ≤ length s → Ends b (length (take n (drop from s))) → Ends (placed_at from b) (length s)
 unfolding placed_at
-part_ends s from n (is q) h x p z =
+part_ends s from n (Some q) h x p z =
     let y : from + q ≡ p = cc in
     omega (arith, simp (length-take, length-drop) at (x q refl))
-part_ends s from n none h x p z = no_block p z
+part_ends s from n None h x p z = no_block p z
 
 module _ (key : ℕ) (ber : Bool) (s : List ℕ) where
   -- whoever looks into whole items
-  first_ends : (look : Item → Answer ℕ) → ((i : Item) → i.klv.value + i.klv.len ≤ length s → Ends (look i) (length s))
+  first_ends : (look : Item → Option ℕ) → ((i : Item) → i.klv.value + i.klv.len ≤ length s → Ends (look i) (length s))
       → (fuel p : ℕ) → Ends (first_of look (at_most (item_step key ber s) fuel p)) (length s)
   unfolding at_most first_of before
   first_ends look h zero p = no_block
@@ -58,7 +58,7 @@ module _ (key : ℕ) (ber : Bool) (s : List ℕ) where
   tag-ends zero p = no_block
   tag-ends (suc fuel) p = go (tag-ends fuel) (item_step key ber s p) refl
     where
-      whole : (k : Klv) → k.value + k.len ≤ length s → (t : Bool) → (T t → 256 ≤ k.len) → Ends (cond t (is k.value) none) (length s)
+      whole : (k : Klv) → k.value + k.len ≤ length s → (t : Bool) → (T t → 256 ≤ k.len) → Ends (cond t (Some k.value) None) (length s)
       whole k f true h p z = let y : k.value ≡ p = cc in omega (arith, h tt)
       whole k f false h p z = no_block p z
 
@@ -93,6 +93,6 @@ block_ends s =
     _ 0
 
 -- a block that is found has its 256 bytes
-pub block_whole : (s : List ℕ) (p : ℕ) → block_of s ≡ is p → length (bytes_of s (block_of s)) ≡ 256
+pub block_whole : (s : List ℕ) (p : ℕ) → block_of s ≡ Some p → length (bytes_of s (block_of s)) ≡ 256
 unfolding bytes_of
 block_whole s p e = rw e (part_length s p 256 (block_ends s p e))

@@ -5,21 +5,21 @@ use mathlib.Core.List.{List}
 use mathlib.Core.Bool.{Bool}
 use borrow.Author.Tests.{eq-eqb, ne_eqb}
 use Rattle.steps.specs.Told.{found, nothing}
-use Rattle.parts.specs.Answer.{Answer, is, none}
+use Rattle.std.specs.Prelude.{Option, Some, None}
 use Rattle.klv.specs.Item.{Item, tag_of}
 use Rattle.items.specs.Items.{item_step}
 use Rattle.items.proofs.From.{items_from, no_items, one_more}
-use Rattle.arri_block.specs.Block.{or_else, first_of, first_bytes, in_items}
+use Rattle.arri_block.specs.Block.{first_of, first_bytes, in_items}
 
 module _ (key : ℕ) (ber : Bool) (s : List ℕ) (p : ℕ) where
   module _ (i : Item) (q : ℕ) (e : item_step key ber s p ≡ found i q) where
     -- of the first block
-    pub first_hit : (look : Item → Answer ℕ) (at : ℕ) → look i ≡ is at → first_of look (items_from key ber s p) ≡ look i
-    unfolding first_of or_else
+    pub first_hit : (look : Item → Option ℕ) (at : ℕ) → look i ≡ Some at → first_of look (items_from key ber s p) ≡ look i
+    unfolding first_of
     first_hit look at h = rw (one_more key ber s p i q e, h)
 
-    pub first-passed : (look : Item → Answer ℕ) → look i ≡ none → first_of look (items_from key ber s p) ≡ first_of look (items_from key ber s q)
-    unfolding first_of or_else
+    pub first-passed : (look : Item → Option ℕ) → look i ≡ None → first_of look (items_from key ber s p) ≡ first_of look (items_from key ber s q)
+    unfolding first_of
     first-passed look h = rw (one_more key ber s p i q e, h)
 
     -- of the first item 8200h
@@ -31,10 +31,10 @@ module _ (key : ℕ) (ber : Bool) (s : List ℕ) (p : ℕ) where
     unfolding in_items
     tag-passed h = rw (one_more key ber s p i q e, ne_eqb _ _ h)
 
-  pub first-end : (look : Item → Answer ℕ) → item_step key ber s p ≡ nothing p → first_of look (items_from key ber s p) ≡ none
+  pub first-end : (look : Item → Option ℕ) → item_step key ber s p ≡ nothing p → first_of look (items_from key ber s p) ≡ None
   unfolding first_of
   first-end look e = rw (no_items key ber s p e)
 
-  pub tag-end : item_step key ber s p ≡ nothing p → in_items (items_from key ber s p) ≡ none
+  pub tag-end : item_step key ber s p ≡ nothing p → in_items (items_from key ber s p) ≡ None
   unfolding in_items
   tag-end e = rw (no_items key ber s p e)

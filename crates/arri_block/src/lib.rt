@@ -6,9 +6,9 @@
 
 ghost use Rattle.std.specs.Prelude.{◌≡◌, ◌+◌, ◌≤◌, ◌^◌, length};
 ghost use Rattle.klv.specs.Item.{item};
-ghost use Rattle.arri_block.specs.Block.{told, placed_at, first_bytes, in_set, in_run_item, in_run, in_element_item, block_of, bytes_of, Ends};
+ghost use Rattle.arri_block.specs.Block.{placed_at, first_bytes, in_set, in_run_item, in_run, in_element_item, block_of, bytes_of, Ends};
 
-use items::{Coding, Local, LocalNext, Run, RunNext};
+use items::{Coding, Local, Run};
 use klv::Klv;
 use parts::{one_at, two_at};
 
@@ -16,124 +16,101 @@ use parts::{one_at, two_at};
 const LENS_UNIT_SET: [u8; 16] =
     *b"\x06\x0e\x2b\x34\x02\x53\x01\x01\x0c\x02\x01\x01\x01\x01\x00\x00";
 
-// Where the 256 bytes are.
-#[derive(Clone, Copy)]
-pub enum Block {
-    // They start there.
-    At(usize),
-    Nothing,
-}
-
 // A block of the bytes that start at a place, by its place in the whole.
-fn placed_at(from: usize, b: Block) -> Block
-    requires { Ends (placed_at from (told b)) (2 ^ 64) }
-    ensures { told result ≡ placed_at from (told b) }
+fn placed_at(from: usize, b: Option<usize>) -> Option<usize>
+    requires { Ends (placed_at from b) (2 ^ 64) }
+    ensures { result ≡ placed_at from b }
 {
-    let Block::At(p) = b else {
-        return Block::Nothing;
-    };
-    let at = from + p;
-    Block::At(at)
+    Some(from + b?)
 }
 
 // The first 256 bytes of an item's value, if it has them.
-fn first_bytes(k: Klv) -> Block
-    ensures { told result ≡ first_bytes k }
+fn first_bytes(k: Klv) -> Option<usize>
+    ensures { result ≡ first_bytes k }
 {
     if k.len < 256 {
-        return Block::Nothing;
+        return None;
     }
-    Block::At(k.value)
+    Some(k.value)
 }
 
 // The block that a set's first item 8200h gives.
-fn in_set(s: &[u8]) -> Block
-    ensures { told result ≡ in_set s.now }
+fn in_set(s: &[u8]) -> Option<usize>
+    ensures { result ≡ in_set s.now }
 {
-    let mut at = 0;
-    loop {
-        let step = Local { at }.step(s, Coding::TWO_TWO);
-        let LocalNext::Item(k, next) = step else {
-            return Block::Nothing;
-        };
+    let mut items = Local { at: 0 };
+    while let Some((k, next)) = items.step(s, Coding::TWO_TWO) {
         if two_at(s, k.at) == 0x8200 {
             return first_bytes(k);
         }
-        at = next.at;
+        items = next;
     }
+    None
 }
 
 // The block that a run's item gives, where it is a lens unit set. The byte at 7 doesn't count, as in `same_label`; `agree_but` itself is
 // called, since the compiler takes it in where a label is constant.
-fn in_run_item(s: &[u8], k: Klv) -> Block
+fn in_run_item(s: &[u8], k: Klv) -> Option<usize>
     requires { k.value + k.len ≤ length s.now }
-    ensures { told result ≡ in_run_item s.now (item 16 s.now k) }
+    ensures { result ≡ in_run_item s.now (item 16 s.now k) }
 {
     if labels::agree_but(k.label(s), &LENS_UNIT_SET, 7, 7, 7) {
         let value = k.value;
         let end = value + k.len;
         placed_at(value, in_set(&s[value..end]))
     } else {
-        Block::Nothing
+        None
     }
 }
 
 // The first block in a run's lens unit sets.
-fn in_run(s: &[u8]) -> Block
-    ensures { told result ≡ in_run s.now }
+fn in_run(s: &[u8]) -> Option<usize>
+    ensures { result ≡ in_run s.now }
 {
-    let mut at = 0;
-    loop {
-        let step = Run { at }.step(s);
-        let RunNext::Item(k, next) = step else {
-            return Block::Nothing;
-        };
-        let b = in_run_item(s, k);
-        if let Block::At(_) = b {
-            return b;
+    let mut items = Run { at: 0 };
+    while let Some((k, next)) = items.step(s) {
+        if let Some(at) = in_run_item(s, k) {
+            return Some(at);
         }
-        at = next.at;
+        items = next;
     }
+    None
 }
 
 // The block that an element's item gives, where it is an 88h one.
-fn in_element_item(s: &[u8], k: Klv) -> Block
+fn in_element_item(s: &[u8], k: Klv) -> Option<usize>
     requires { k.value + k.len ≤ length s.now }
-    ensures { told result ≡ in_element_item s.now (item 1 s.now k) }
+    ensures { result ≡ in_element_item s.now (item 1 s.now k) }
 {
     if one_at(s, k.at) == 0x88 {
         let value = k.value;
         let end = value + k.len;
         placed_at(value, in_run(&s[value..end]))
     } else {
-        Block::Nothing
+        None
     }
 }
 
-// ARRI's 256 bytes in an element.
-pub fn find(element: &[u8]) -> Block
-    ensures { told result ≡ block_of element.now }
+// Where ARRI's 256 bytes in an element start.
+pub fn find(element: &[u8]) -> Option<usize>
+    ensures { result ≡ block_of element.now }
 {
-    let mut at = 0;
-    loop {
-        let step = Local { at }.step(element, Coding::ONE_TWO);
-        let LocalNext::Item(k, next) = step else {
-            return Block::Nothing;
-        };
-        let b = in_element_item(element, k);
-        if let Block::At(_) = b {
-            return b;
+    let mut items = Local { at: 0 };
+    while let Some((k, next)) = items.step(element, Coding::ONE_TWO) {
+        if let Some(at) = in_element_item(element, k) {
+            return Some(at);
         }
-        at = next.at;
+        items = next;
     }
+    None
 }
 
 // The block's bytes, a part of the element; none where there is no block.
-pub fn bytes(element: &[u8], block: Block) -> &[u8]
-    ensures { result.now ≡ bytes_of element.now (told block) }
+pub fn bytes(element: &[u8], block: Option<usize>) -> &[u8]
+    ensures { result.now ≡ bytes_of element.now block }
 {
     match block {
-        Block::At(p) => parts::part(element, p, 256),
-        Block::Nothing => parts::part(element, 0, 0),
+        Some(p) => parts::part(element, p, 256),
+        None => parts::part(element, 0, 0),
     }
 }

@@ -1,24 +1,17 @@
 -- The 256 bytes of an ALEXA Mini's frame: docs/RULES.md, "Frame values", and the table of offsets of `Frame::of_dynamic`.
-use Rattle.std.specs.Prelude.{ℕ, ◌/◌, List, Bool, ◌&&◌, ◌||◌, not, cond, ltb, leb, eqb, pos}
+use Rattle.std.specs.Prelude.{ℕ, ◌/◌, List, Bool, ◌&&◌, ◌||◌, not, cond, ltb, leb, eqb, pos, Option, Some, None, Float}
 use Rattle.std.specs.Float.{binary32, binary64}
 use Rattle.std.specs.Float.Ieee.{of_int}
 use Rattle.parts.specs.Number.{two_at, four_at}
 use Rattle.floats.specs.Quotients.{thousandths_f32, low_tenths, over_thousand}
 use Rattle.frame_values.specs.Values.{float_of, positive, single_thousandths, double_thousandths, tilt_roll_of}
-use Rattle.frame_values.specs.declared.Single.{Single}
-use Rattle.frame_values.specs.declared.Whole64.{Whole64}
 use Rattle.frame_values.specs.declared.Distance.{Distance}
 use Rattle.frame_values.specs.declared.TStop.{TStop}
-use Rattle.frame_values.specs.declared.Factors.{Factors}
 use Rattle.frame_values.specs.declared.Encoders.{Encoders}
 use Rattle.frame_values.specs.declared.Frame.{Frame}
-use Rattle.frame_values.specs.declared.Single.TheVariants as single
-use Rattle.frame_values.specs.declared.Double.TheVariants as double
-use Rattle.frame_values.specs.declared.Whole32.TheVariants as whole32
-use Rattle.frame_values.specs.declared.Whole64.TheVariants as whole64
 use Rattle.frame_values.specs.declared.Distance.TheVariants as distance
 use Rattle.frame_values.specs.declared.TStop.TheVariants as stop
-use Rattle.frame_values.specs.declared.Factors.TheVariants as factors
+use Rattle.frame_values.specs.declared.Colours.{Colours}
 
 -- all bits set: a field without a value
 abbrev pub unset : ℕ
@@ -36,39 +29,39 @@ unfoldable pub version_of : ℕ → ℕ
 version_of v = cond (eqb v unset) 0 (cond (leb 0x10000 v) (v / 0x10000) v)
 
 -- a float over 1000, in f32
-unfoldable pub single_over_thousand : Single → Single
-single_over_thousand (single.Is x) = single.Is (over_thousand binary32 x)
-single_over_thousand single.Nothing = single.Nothing
+unfoldable pub single_over_thousand : Option Float → Option Float
+single_over_thousand (Some x) = Some (over_thousand binary32 x)
+single_over_thousand None = None
 
 -- before version 3 a float, from there on a whole number; both in thousandths
-unfoldable pub shutter_of : ℕ → ℕ → Single
+unfoldable pub shutter_of : ℕ → ℕ → Option Float
 shutter_of version v = cond (ltb version 3) (single_over_thousand (float_of v)) (single_thousandths (is_set v) v)
 
 -- the low 16 bits, signed, over 10
-unfoldable pub angle_of : ℕ → Single
-angle_of v = cond (is_set v) (single.Is (low_tenths v)) single.Nothing
+unfoldable pub angle_of : ℕ → Option Float
+angle_of v = cond (is_set v) (Some (low_tenths v)) None
 
 -- thousandths that are the T-stop itself
-unfoldable pub t_stop_of : Single → TStop
-t_stop_of (single.Is x) = stop.Is x
-t_stop_of single.Nothing = stop.Nothing
+unfoldable pub t_stop_of : Option Float → Option TStop
+t_stop_of (Some x) = Some (stop.Is x)
+t_stop_of None = None
 
 -- 0 is unknown; all bits set is infinity where the lens has data, else nothing; millimetres
-unfoldable pub distance_of : Bool → ℕ → Distance
+unfoldable pub distance_of : Bool → ℕ → Option Distance
 distance_of lens v =
-    cond (eqb v 0) distance.Nothing
-    (cond (eqb v unset) (cond lens distance.Infinity distance.Nothing)
-    (distance.Metres (thousandths_f32 v)))
+    cond (eqb v 0) None
+    (cond (eqb v unset) (cond lens (Some distance.Infinity) None)
+    (Some (distance.Metres (thousandths_f32 v))))
 
 -- the factors on red and blue, where both are there; green's is 1
-unfoldable pub factors_of : Single → Single → Factors
-factors_of (single.Is red) (single.Is blue) = factors.Are (record { red = red; green = of_int binary64 (pos 1); blue = blue })
-factors_of (single.Is red) single.Nothing = factors.Nothing
-factors_of single.Nothing blue = factors.Nothing
+unfoldable pub factors_of : Option Float → Option Float → Option Colours
+factors_of (Some red) (Some blue) = Some (record { red = red; green = of_int binary64 (pos 1); blue = blue })
+factors_of (Some red) None = None
+factors_of None blue = None
 
 -- an encoder's u16, unset where all bits are set
-unfoldable pub encoder_at : List ℕ → ℕ → Whole64
-encoder_at d at = cond (eqb (two_at d at) 0xffff) whole64.Nothing (whole64.Is (two_at d at))
+unfoldable pub encoder_at : List ℕ → ℕ → Option ℕ
+encoder_at d at = cond (eqb (two_at d at) 0xffff) None (Some (two_at d at))
 
 unfoldable pub encoders_of : List ℕ → Encoders
 encoders_of d = record {
@@ -92,12 +85,12 @@ dynamic_of d = record {
   exposure_time = double_thousandths (is_set (four_at d 0x50)) (four_at d 0x50);
   shutter_angle = shutter_of (version_of (four_at d 0xfc)) (four_at d 0x54);
   tilt_roll = tilt_roll_of (angle_of (four_at d 0xe0)) (angle_of (four_at d 0xe4));
-  exposure_index = whole32.Nothing;
-  white_balance = whole32.Nothing;
-  nd_density = double.Nothing;
+  exposure_index = None;
+  white_balance = None;
+  nd_density = None;
   effective_focal_length = double_thousandths (is_known (four_at d 0xc0)) (four_at d 0xc0);
   white_balance_factors = factors_of (float_of (four_at d 0xe8)) (float_of (four_at d 0xec));
   encoders = encoders_of d;
-  tint = double.Nothing;
-  sensor_rate = double.Nothing;
+  tint = None;
+  sensor_rate = None;
 }

@@ -7,8 +7,8 @@ ghost use Rattle.std.specs.Prelude.{◌≡◌};
 ghost use Rattle.arri_mini.specs.Dynamic.{is_set, is_known, version_of, single_over_thousand, shutter_of, angle_of, t_stop_of, distance_of, factors_of, encoder_at, encoders_of, dynamic_of};
 
 use frame_values::{
-    Colours, Distance, Double, Encoders, Factors, Frame, Single, TStop, Whole32, Whole64,
-    double_thousandths, float_of, positive, single_thousandths,
+    Colours, Distance, Encoders, Frame, TStop, double_thousandths, float_of, positive,
+    single_thousandths,
 };
 use parts::four_at;
 
@@ -40,17 +40,14 @@ fn version_of(v: u32) -> u32
 }
 
 // A float over 1000.
-fn single_over_thousand(x: Single) -> Single
+fn single_over_thousand(x: Option<f32>) -> Option<f32>
     ensures { result ≡ single_over_thousand x }
 {
-    let Single::Is(f) = x else {
-        return Single::Nothing;
-    };
-    Single::Is(floats::over_thousand_f32(f))
+    Some(floats::over_thousand_f32(x?))
 }
 
 // The shutter angle, a float before version 3.
-fn shutter_of(version: u32, v: u32) -> Single
+fn shutter_of(version: u32, v: u32) -> Option<f32>
     ensures { result ≡ shutter_of version v }
 {
     if version < 3 {
@@ -61,69 +58,56 @@ fn shutter_of(version: u32, v: u32) -> Single
 }
 
 // An angle in tenths of a degree.
-fn angle_of(v: u32) -> Single
+fn angle_of(v: u32) -> Option<f32>
     ensures { result ≡ angle_of v }
 {
     if is_set(v) {
-        Single::Is(floats::low_tenths(v))
+        Some(floats::low_tenths(v))
     } else {
-        Single::Nothing
+        None
     }
 }
 
 // The T-stop by its figure.
-fn t_stop_of(x: Single) -> TStop
+fn t_stop_of(x: Option<f32>) -> Option<TStop>
     ensures { result ≡ t_stop_of x }
 {
-    let Single::Is(f) = x else {
-        return TStop::Nothing;
-    };
-    TStop::Is(f)
+    Some(TStop::Is(x?))
 }
 
 // The focus distance, where `lens` says whether the lens has data.
-fn distance_of(lens: bool, v: u32) -> Distance
+fn distance_of(lens: bool, v: u32) -> Option<Distance>
     ensures { result ≡ distance_of lens v }
 {
     if v == 0 {
-        return Distance::Nothing;
+        return None;
     }
     if v != UNSET {
-        return Distance::Metres(floats::thousandths_f32(v));
+        return Some(Distance::Metres(floats::thousandths_f32(v)));
     }
-    if lens {
-        Distance::Infinity
-    } else {
-        Distance::Nothing
-    }
+    if lens { Some(Distance::Infinity) } else { None }
 }
 
 // The white balance factors by those on red and blue.
-fn factors_of(red: Single, blue: Single) -> Factors
+fn factors_of(red: Option<f32>, blue: Option<f32>) -> Option<Colours>
     ensures { result ≡ factors_of red blue }
 {
-    let Single::Is(r) = red else {
-        return Factors::Nothing;
-    };
-    let Single::Is(b) = blue else {
-        return Factors::Nothing;
-    };
-    Factors::Are(Colours {
-        red: floats::widen(r),
+    Some(Colours {
+        red: floats::widen(red?),
         green: 1.0,
-        blue: floats::widen(b),
+        blue: floats::widen(blue?),
     })
 }
 
 // The encoder's value at a place.
-fn encoder_at(d: &[u8], at: usize) -> Whole64
+fn encoder_at(d: &[u8], at: usize) -> Option<u64>
     ensures { result ≡ encoder_at d.now at }
 {
-    let v = parts::two_at(d, at) as u64;
+    let v = u64::from(parts::two_at(d, at));
     if v == 0xffff {
-        return Whole64::Nothing;
+        return None;
     }
-    Whole64::Is(v)
+    Some(v)
 }
 
 // The lens encoders, in this camera's order: focus, zoom, iris.
@@ -160,13 +144,13 @@ pub fn of_dynamic(d: &[u8]) -> Frame
             angle_of(four_at(d, 0xe0)),
             angle_of(four_at(d, 0xe4)),
         ),
-        exposure_index: Whole32::Nothing,
-        white_balance: Whole32::Nothing,
-        nd_density: Double::Nothing,
+        exposure_index: None,
+        white_balance: None,
+        nd_density: None,
         effective_focal_length: double_thousandths(is_known(effective), effective),
         white_balance_factors: factors_of(float_of(four_at(d, 0xe8)), float_of(four_at(d, 0xec))),
         encoders: encoders_of(d),
-        tint: Double::Nothing,
-        sensor_rate: Double::Nothing,
+        tint: None,
+        sensor_rate: None,
     }
 }

@@ -5,43 +5,33 @@
 ghost use Rattle.std.specs.Prelude.{◌≡◌};
 ghost use Rattle.arri_values.specs.Values.{mini_of, element_of, values_of};
 
-use arri_block::Block;
+use frame_values::Frame;
 use frame_walks::{Arri, FrameElement};
 
-// A frame's values, or none.
-#[derive(Clone, Copy)]
-pub enum Values {
-    Are(frame_values::Frame),
-    Nothing,
-}
-
 // The values in an ALEXA Mini's element.
-fn mini(element: &[u8]) -> Values
+fn mini(element: &[u8]) -> Option<Frame>
     ensures { result ≡ mini_of element.now }
 {
-    let b = arri_block::find(element);
-    let Block::At(_) = b else {
-        return Values::Nothing;
-    };
-    Values::Are(arri_mini::of_dynamic(arri_block::bytes(element, b)))
+    let at = arri_block::find(element)?;
+    Some(arri_mini::of_dynamic(arri_block::bytes(element, Some(at))))
 }
 
 // The values in an element, by its label.
-pub fn in_element(label: &[u8], element: &[u8]) -> Values
+pub fn in_element(label: &[u8], element: &[u8]) -> Option<Frame>
     ensures { result ≡ element_of label.now element.now }
 {
     if labels::agree_but(label, &Arri::FRAME_DATA, 7, 13, 15) {
-        return Values::Are(arri_alexa35::of_alexa35(element));
+        return Some(arri_alexa35::of_alexa35(element));
     }
     mini(element)
 }
 
 // The values of a frame that ARRI's walk over s gave.
-pub fn values_of(s: &[u8], f: FrameElement) -> Values
+pub fn values_of(s: &[u8], f: FrameElement) -> Option<Frame>
     ensures { result ≡ values_of s.now f }
 {
     if f.overlong {
-        return Values::Nothing;
+        return None;
     }
     let k = f.element;
     in_element(k.label(s), k.bytes(s))

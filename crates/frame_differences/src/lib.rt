@@ -1,189 +1,112 @@
-// Which fields of two frames' values differ: docs/RULES.md, "L14. Two recordings of one take". What a value says is a code and up
-// to three numbers, floats by their bits, so that nothing and infinity are themselves, +0.0 and -0.0 differ, and one comparison
-// serves every kind.
+// Which fields of two frames' values differ: docs/RULES.md, "L14. Two recordings of one take". What a field says is compared, floats by
+// their bits, so that nothing and infinity are themselves, +0.0 and -0.0 differ, and one comparison serves every kind.
 #![tactic(auto)]
 
 ghost use Rattle.std.specs.Prelude.{◌≡◌};
-ghost use Rattle.frame_differences.specs.Said.{of_single, of_double, of_whole32, of_whole64, of_distance, of_tStop, of_tilt_roll, of_factors, said_of};
-ghost use Rattle.frame_differences.specs.Mask.{same, bit, mask_of};
+ghost use Rattle.frame_differences.specs.Said.{of_single, of_double, of_whole, of_distance, of_tStop, of_tilt_roll, of_factors, said_of};
+ghost use Rattle.frame_differences.specs.Mask.{mask_of};
 
-use frame_values::{Distance, Double, Factors, Frame, Single, TStop, TiltRoll, Whole32, Whole64};
+use frame_values::{Angles, Colours, Distance, Frame, TStop};
 
-// What a value says: 0 where it is nothing, else the code of its kind, and its numbers or its floats' bits.
-#[derive(Clone, Copy)]
-pub struct Said {
-    pub code: u64,
-    pub first: u64,
-    pub second: u64,
-    pub third: u64,
+// What a field says that isn't nothing, floats by their bits.
+#[derive(Clone, Copy, Debug, PartialEq, Eq)]
+pub enum Said {
+    Single(u32),
+    Double(u64),
+    Whole(u64),
+    // The distance that is infinity.
+    Infinity,
+    // A T-stop's number on the linear scale.
+    Linear(u32),
+    // Tilt and roll.
+    Angles(u32, u32),
+    // The factors on red, green and blue.
+    Factors(u64, u64, u64),
 }
 
-// A value that has one number.
-fn one(code: u64, first: u64) -> Said
-    ensures { result ≡ record { code = code; first = first; second = 0; third = 0 } }
-{
-    Said {
-        code,
-        first,
-        second: 0,
-        third: 0,
-    }
-}
-
-fn of_single(v: Single) -> Said
+fn of_single(v: Option<f32>) -> Option<Said>
     ensures { result ≡ of_single v }
 {
-    match v {
-        Single::Is(x) => one(1, floats::f32_bits(x) as u64),
-        Single::Nothing => one(0, 0),
-    }
+    Some(Said::Single(floats::f32_bits(v?)))
 }
 
-fn of_double(v: Double) -> Said
+// Not one generic function with `of_single`: it would take the bits' function and the kind, which is all that each line says.
+fn of_double(v: Option<f64>) -> Option<Said>
     ensures { result ≡ of_double v }
 {
-    match v {
-        Double::Is(x) => one(1, floats::f64_bits(x)),
-        Double::Nothing => one(0, 0),
-    }
+    Some(Said::Double(floats::f64_bits(v?)))
 }
 
-fn of_whole32(v: Whole32) -> Said
-    ensures { result ≡ of_whole32 v }
+fn of_whole(v: Option<u64>) -> Option<Said>
+    ensures { result ≡ of_whole v }
 {
-    match v {
-        Whole32::Is(n) => one(1, n as u64),
-        Whole32::Nothing => one(0, 0),
-    }
-}
-
-fn of_whole64(v: Whole64) -> Said
-    ensures { result ≡ of_whole64 v }
-{
-    match v {
-        Whole64::Is(n) => one(1, n),
-        Whole64::Nothing => one(0, 0),
-    }
+    Some(Said::Whole(v?))
 }
 
 // Infinity is a value of its own.
-fn of_distance(v: Distance) -> Said
+fn of_distance(v: Option<Distance>) -> Option<Said>
     ensures { result ≡ of_distance v }
 {
-    match v {
-        Distance::Metres(x) => one(1, floats::f32_bits(x) as u64),
-        Distance::Infinity => one(2, 0),
-        Distance::Nothing => one(0, 0),
+    match v? {
+        Distance::Metres(x) => Some(Said::Single(floats::f32_bits(x))),
+        Distance::Infinity => Some(Said::Infinity),
     }
 }
 
 // A figure and a number on the linear scale are never the same.
-fn of_t_stop(v: TStop) -> Said
+fn of_t_stop(v: Option<TStop>) -> Option<Said>
     ensures { result ≡ of_tStop v }
 {
-    match v {
-        TStop::Is(x) => one(1, floats::f32_bits(x) as u64),
-        TStop::Linear(n) => one(2, n as u64),
-        TStop::Nothing => one(0, 0),
+    match v? {
+        TStop::Is(x) => Some(Said::Single(floats::f32_bits(x))),
+        TStop::Linear(n) => Some(Said::Linear(n)),
     }
 }
 
-fn of_tilt_roll(v: TiltRoll) -> Said
+fn of_tilt_roll(v: Option<Angles>) -> Option<Said>
     ensures { result ≡ of_tilt_roll v }
 {
-    match v {
-        TiltRoll::Are(a) => {
-            let tilt = floats::f32_bits(a.tilt);
-            let roll = floats::f32_bits(a.roll);
-            Said {
-                code: 1,
-                first: tilt as u64,
-                second: roll as u64,
-                third: 0,
-            }
-        }
-        TiltRoll::Nothing => one(0, 0),
-    }
+    let a = v?;
+    Some(Said::Angles(floats::f32_bits(a.tilt), floats::f32_bits(a.roll)))
 }
 
-fn of_factors(v: Factors) -> Said
+fn of_factors(v: Option<Colours>) -> Option<Said>
     ensures { result ≡ of_factors v }
 {
-    match v {
-        Factors::Are(k) => {
-            let red = floats::f64_bits(k.red);
-            let green = floats::f64_bits(k.green);
-            let blue = floats::f64_bits(k.blue);
-            Said {
-                code: 1,
-                first: red,
-                second: green,
-                third: blue,
-            }
-        }
-        Factors::Nothing => one(0, 0),
-    }
+    let k = v?;
+    Some(Said::Factors(
+        floats::f64_bits(k.red),
+        floats::f64_bits(k.green),
+        floats::f64_bits(k.blue),
+    ))
 }
 
 // What each of the 19 fields says, in the order of the header.
-pub fn row(f: Frame) -> [Said; 19]
+pub fn row(f: Frame) -> [Option<Said>; 19]
     ensures { result ≡ said_of f }
 {
-    let focal_length = f.focal_length;
-    let focus_distance = f.focus_distance;
-    let t_stop = f.t_stop;
-    let exposure_time = f.exposure_time;
-    let shutter_angle = f.shutter_angle;
-    let tilt_roll = f.tilt_roll;
-    let exposure_index = f.exposure_index;
-    let white_balance = f.white_balance;
-    let nd_density = f.nd_density;
-    let effective_focal_length = f.effective_focal_length;
-    let white_balance_factors = f.white_balance_factors;
     let e = f.encoders;
-    let focus_lds = e.focus_lds;
-    let focus_motor = e.focus_motor;
-    let zoom_lds = e.zoom_lds;
-    let zoom_motor = e.zoom_motor;
-    let iris_lds = e.iris_lds;
-    let iris_motor = e.iris_motor;
-    let tint = f.tint;
-    let sensor_rate = f.sensor_rate;
     [
-        of_single(focal_length),
-        of_distance(focus_distance),
-        of_t_stop(t_stop),
-        of_double(exposure_time),
-        of_single(shutter_angle),
-        of_tilt_roll(tilt_roll),
-        of_whole32(exposure_index),
-        of_whole32(white_balance),
-        of_double(nd_density),
-        of_double(effective_focal_length),
-        of_factors(white_balance_factors),
-        of_whole64(focus_lds),
-        of_whole64(focus_motor),
-        of_whole64(zoom_lds),
-        of_whole64(zoom_motor),
-        of_whole64(iris_lds),
-        of_whole64(iris_motor),
-        of_double(tint),
-        of_double(sensor_rate),
+        of_single(f.focal_length),
+        of_distance(f.focus_distance),
+        of_t_stop(f.t_stop),
+        of_double(f.exposure_time),
+        of_single(f.shutter_angle),
+        of_tilt_roll(f.tilt_roll),
+        of_whole(f.exposure_index.map(u64::from)),
+        of_whole(f.white_balance.map(u64::from)),
+        of_double(f.nd_density),
+        of_double(f.effective_focal_length),
+        of_factors(f.white_balance_factors),
+        of_whole(e.focus_lds),
+        of_whole(e.focus_motor),
+        of_whole(e.zoom_lds),
+        of_whole(e.zoom_motor),
+        of_whole(e.iris_lds),
+        of_whole(e.iris_motor),
+        of_double(f.tint),
+        of_double(f.sensor_rate),
     ]
-}
-
-// Whether two values say the same.
-fn same(x: Said, y: Said) -> bool
-    ensures { result ≡ same x y }
-{
-    (x.code == y.code) & (x.first == y.first) & (x.second == y.second) & (x.third == y.third)
-}
-
-// 1 where two values differ.
-fn bit(x: Said, y: Said) -> u32
-    ensures { result ≡ bit x y }
-{
-    if same(x, y) { 0 } else { 1 }
 }
 
 // The fields in which two frames' values differ: bit k stands for field k of the header's 19.
@@ -192,15 +115,9 @@ pub fn fields(f: Frame, g: Frame) -> u32
 {
     let a = row(f);
     let b = row(g);
-    let mut mask = 0u32;
-    let mut k = 19usize;
-    while 0 < k {
-        let i = k - 1;
-        let x = a[i];
-        let y = b[i];
-        let d = bit(x, y);
-        mask = mask * 2 + d;
-        k = i;
+    let mut mask = 0;
+    for k in (0..19).rev() {
+        mask = mask * 2 + u32::from(a[k] != b[k]);
     }
     mask
 }

@@ -5,7 +5,6 @@ ghost use Rattle.std.specs.Prelude.{◌≡◌, length};
 ghost use Rattle.outline_text.specs.Said.{outline_said, outline_into};
 ghost use Rattle.host_outline.specs.Places.{outline_places};
 
-// The outline of a file with an end, to a depth of 1 to 8, at the start of `text`.
 #[unsafe(no_mangle)]
 pub extern "C" fn brine_outline(
     s: &[u8],

@@ -36,8 +36,8 @@ pub const MANUAL: u64 = 13;
 
 pub const RESERVED: u64 = 14;
 
-// A value's kind and its bits.
-#[derive(Clone, Copy)]
+// A value's kind and its bits: both are numbers because the C interface hands them out in two arrays of u64.
+#[derive(Clone, Copy, Debug, PartialEq, Eq)]
 pub struct Slot {
     pub kind: u64,
     pub bits: u64,
@@ -61,7 +61,7 @@ pub fn nothing() -> Slot
 pub fn single(x: f32) -> Slot
     ensures { result ≡ single x }
 {
-    of_kind(F32, floats::f32_bits(x) as u64)
+    of_kind(F32, u64::from(floats::f32_bits(x)))
 }
 
 // An f64, by its bits.
@@ -76,13 +76,11 @@ fn put_eight(a: [Slot; 8], at: usize, kind: &mut [u64; 32], bits: &mut [u64; 32]
     requires { at + 8 ≤ 32 }
     ensures { Put a at kind.old bits.old kind.new bits.new }
 {
-    let mut i = 0;
-    while i < 8 {
+    for i in 0..8 {
         let s = a[i];
         let place = at + i;
         kind[place] = s.kind;
         bits[place] = s.bits;
-        i += 1;
     }
 }
 

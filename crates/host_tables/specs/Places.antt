@@ -1,5 +1,5 @@
 -- What the lent places hold after a call: include/brinethimble.h.
-use Rattle.std.specs.Prelude.{ℕ, List, [], ◌∷◌}
+use Rattle.std.specs.Prelude.{ℕ, List, [], ◌∷◌, Option, Some, None}
 use Rattle.steps.specs.Told.{Told, found, nothing, refused}
 use Rattle.parts.specs.Answer.{Answer, is, none}
 use Rattle.header.specs.declared.Place.{Place}
@@ -11,10 +11,15 @@ unfoldable pub header_places : Answer Place → List ℕ
 header_places (is p) = 1 ∷ p.at ∷ p.len ∷ []
 header_places none = 0 ∷ 0 ∷ 0 ∷ []
 
--- found, the place of a primer's label or of a block
+-- found, the place of a primer's label
 abbrev pub start_places : Answer ℕ → List ℕ
 start_places (is at) = 1 ∷ at ∷ []
 start_places none = 0 ∷ 0 ∷ []
+
+-- found, the place of a block
+abbrev pub block_places : Option ℕ → List ℕ
+block_places (Some at) = 1 ∷ at ∷ []
+block_places None = 0 ∷ 0 ∷ []
 
 -- the payload's length, whether it was put or not
 unfoldable pub payload_places : ℕ × ℕ → List ℕ

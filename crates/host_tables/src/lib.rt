@@ -12,10 +12,9 @@ ghost use Rattle.st436.specs.Payload.{payload_said, payload_into};
 ghost use Rattle.canon_sequence.specs.Sequence.{sequence_of};
 ghost use Rattle.canon_sets.specs.Package.{values_from};
 ghost use Rattle.canon_sets.specs.Told.{first_of};
-ghost use Rattle.host_tables.specs.Places.{header_places, start_places, payload_places, line_places, package_places};
+ghost use Rattle.host_tables.specs.Places.{header_places, start_places, block_places, payload_places, line_places, package_places};
 ghost use Rattle.host_tables.specs.Sequence.{spot_of, position_found, position_figure, sequence_places, position_places};
 
-use arri_block::Block;
 use canon_sets::Package;
 use klv::Klv;
 use st436::Lines;
@@ -79,12 +78,11 @@ pub extern "C" fn brine_primer_in(
 #[unsafe(no_mangle)]
 pub extern "C" fn brine_arri_block(element: &[u8], out: &mut [u64; 2]) -> u32
     ensures value { result ≡ 0 }
-    ensures out_after { out.new ≡ start_places (block_of element.now) }
+    ensures out_after { out.new ≡ block_places (block_of element.now) }
 {
-    let b = arri_block::find(element);
-    match b {
-        Block::At(at) => *out = [1, at as u64],
-        Block::Nothing => *out = [0, 0],
+    match arri_block::find(element) {
+        Some(at) => *out = [1, at as u64],
+        None => *out = [0, 0],
     }
     0
 }

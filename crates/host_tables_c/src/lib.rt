@@ -11,7 +11,7 @@ ghost use Rattle.st436.specs.Payload.{payload_said, payload_into};
 ghost use Rattle.canon_sequence.specs.Sequence.{sequence_of};
 ghost use Rattle.canon_sets.specs.Package.{values_from};
 ghost use Rattle.canon_sets.specs.Told.{first_of};
-ghost use Rattle.host_tables.specs.Places.{header_places, start_places, payload_places, line_places, package_places};
+ghost use Rattle.host_tables.specs.Places.{header_places, start_places, block_places, payload_places, line_places, package_places};
 ghost use Rattle.host_tables.specs.Sequence.{sequence_places, position_places};
 
 // The header part of a file whose first bytes are s.
@@ -59,7 +59,7 @@ pub extern "C" fn brine_primer_in(
 #[unsafe(no_mangle)]
 pub extern "C" fn brine_arri_block(element: &[u8], out: &mut [u64; 2]) -> u32
     ensures value { result ≡ 0 }
-    ensures out_after { out.new ≡ start_places (block_of element.now) }
+    ensures out_after { out.new ≡ block_places (block_of element.now) }
 {
     host_tables::brine_arri_block(element, out)
 }

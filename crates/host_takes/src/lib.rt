@@ -7,12 +7,12 @@ ghost use Rattle.host_slots.specs.Slots.{kinds, patterns};
 ghost use Rattle.takes.specs.Takes.{takes, takes_step};
 ghost use Rattle.host_takes.specs.Places.{status_of, side_number, what_of, places_of, values_in, value_places, main_of, backup_of};
 
-use arri_values::Values;
+use frame_values::Frame;
 use host_frame_places::put_values;
 use take_frames::{Kind, Recorder};
-use takes::{Step, Takes};
+use takes::Takes;
 
-// What differs, the side that has it, and the fields that differ, by numbers.
+// What differs, the side that has it, and the fields that differ, by numbers, as the C interface hands them out.
 #[derive(Clone, Copy)]
 pub struct What {
     pub what: u64,
@@ -23,8 +23,8 @@ pub struct What {
 // The values of both sides.
 #[derive(Clone, Copy)]
 pub struct Sides {
-    pub main: Values,
-    pub backup: Values,
+    pub main: Option<Frame>,
+    pub backup: Option<Frame>,
 }
 
 // The side by its number.
@@ -70,25 +70,13 @@ fn sides_of(k: Kind) -> Sides
     ensures { result ≡ record { main = values_in main_of k; backup = values_in backup_of k } }
 {
     match k {
-        Kind::Fields(b) => {
-            let main = b.main;
-            let backup = b.backup;
-            Sides {
-                main: Values::Are(main),
-                backup: Values::Are(backup),
-            }
-        }
-        Kind::Values(_) => Sides {
-            main: Values::Nothing,
-            backup: Values::Nothing,
+        Kind::Fields(b) => Sides {
+            main: Some(b.main),
+            backup: Some(b.backup),
         },
-        Kind::Overlong(_) => Sides {
-            main: Values::Nothing,
-            backup: Values::Nothing,
-        },
-        Kind::Only(_) => Sides {
-            main: Values::Nothing,
-            backup: Values::Nothing,
+        Kind::Values(_) | Kind::Overlong(_) | Kind::Only(_) => Sides {
+            main: None,
+            backup: None,
         },
     }
 }
@@ -120,15 +108,11 @@ pub extern "C" fn brine_takes_step(
         main: main_at,
         backup: backup_at,
         number,
-    }
-    .step(main, main_end, backup, backup_end);
-    match t {
-        Step::Differs(d, next) => {
-            let kind = d.kind;
-            let what = what_of(kind);
-            let sides = sides_of(kind);
-            let first = sides.main;
-            let second = sides.backup;
+    };
+    match t.step(main, main_end, backup, backup_end) {
+        Ok(Some((d, next))) => {
+            let what = what_of(d.kind);
+            let sides = sides_of(d.kind);
             *out = [
                 1,
                 d.number,
@@ -139,18 +123,16 @@ pub extern "C" fn brine_takes_step(
                 next.backup as u64,
                 next.number,
             ];
-            put_values(first, main_kind, main_bits);
-            put_values(second, backup_kind, backup_bits);
+            put_values(sides.main, main_kind, main_bits);
+            put_values(sides.backup, backup_kind, backup_bits);
             0
         }
-        Step::Over => {
+        Ok(None) => {
             *out = [0, 0, 0, 0, 0, main_at as u64, backup_at as u64, number];
-            let none = Values::Nothing;
-            put_values(none, main_kind, main_bits);
-            put_values(none, backup_kind, backup_bits);
+            put_values(None, main_kind, main_bits);
+            put_values(None, backup_kind, backup_bits);
             0
         }
-        Step::First => 1,
-        Step::Second => 1,
+        Err(_) => 1,
     }
 }

@@ -1,8 +1,7 @@
 -- What brine_arri_values takes and answers: include/brinethimble.h, "Frame values".
-use Rattle.std.specs.Prelude.{ℕ, List, [], ◌∷◌, false, get_or, ltb}
+use Rattle.std.specs.Prelude.{ℕ, List, [], ◌∷◌, false, get_or, ltb, Option, Some, None}
 use Rattle.frame_walks.specs.declared.FrameElement.{FrameElement}
-use Rattle.arri_values.specs.declared.Values.{Values}
-use Rattle.arri_values.specs.declared.Values.TheVariants as values
+use Rattle.frame_values.specs.declared.Frame.{Frame}
 
 -- the frame of four places: the element's place, the value's place and length, over-long where the last is not 0; values ask
 -- nothing of its length field
@@ -14,6 +13,6 @@ frame_of f = record {
 }
 
 -- found
-unfoldable pub found_places : Values → List ℕ
-found_places (values.Are f) = 1 ∷ []
-found_places values.Nothing = 0 ∷ []
+unfoldable pub found_places : Option Frame → List ℕ
+found_places (Some f) = 1 ∷ []
+found_places None = 0 ∷ []

@@ -10,7 +10,6 @@ ghost use Rattle.arri_alexa35.specs.Alexa.{alexa_of};
 ghost use Rattle.arri_values.specs.Values.{values_of};
 ghost use Rattle.host_values.specs.Values.{frame_of, found_places};
 
-use arri_values::Values;
 use host_frame_places::{put_frame, put_values};
 use klv::Klv;
 
@@ -82,8 +81,8 @@ pub extern "C" fn brine_arri_values(
     let v = arri_values::values_of(s, frame_of(frame));
     put_values(v, kind, bits);
     match v {
-        Values::Are(_) => *out = [1],
-        Values::Nothing => *out = [0],
+        Some(_) => *out = [1],
+        None => *out = [0],
     }
     0
 }

@@ -1,5 +1,5 @@
 -- The starred numbers of docs/RULES.md, "Numbers on both sides", together.
-use Rattle.std.specs.Prelude.{ℕ, ◌-◌, ◌^◌, ◌<◌, ◌≡◌, List, [], ◌∷◌, ◌++◌, Bool, true, false, length, replicate, Float, Err, Ok, Result, Some}
+use Rattle.std.specs.Prelude.{ℕ, ◌-◌, ◌^◌, ◌<◌, ◌≡◌, List, [], ◌∷◌, ◌++◌, Bool, true, false, length, replicate, Float, Option, Some, Err, Ok, Result}
 use Rattle.steps.specs.Told.{nothing}
 use Rattle.lengths.specs.declared.Field.{Field}
 use Rattle.lengths.specs.declared.NoLength.{NoLength}
@@ -61,8 +61,8 @@ Floats =
     × IsWhole (nearest_f32 16777219) 16777220
 
 -- a distance is 1.0
-abbrev pub OneMetre : Distance → Type 0
-OneMetre d = (x : Float) × (d ≡ Metres x) × IsWhole x 1
+abbrev pub OneMetre : Option Distance → Type 0
+OneMetre d = (x : Float) × (d ≡ Some (Metres x)) × IsWhole x 1
 
 -- 1000 thousandths is 1.0: the ALEXA Mini's distance, whether its lens has other data or not, and the ALEXA 35's metric one
 abbrev pub Distances : Type 0

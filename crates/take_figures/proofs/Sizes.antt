@@ -4,16 +4,14 @@ use mathlib.Core.Path.{◌≡◌}
 use mathlib.Core.List.{List}
 use mathlib.Core.Bool.{Bool, true, false, cond}
 use native.Mathlib.Omega.{arith}
-use lib.Dec.{eqb}
+use Rattle.std.specs.Prelude.{Option, Some, None}
 use lib.ListN.{length, length-append}
-use Rattle.text.specs.Write.{decimal_of}
 use Rattle.text.proofs.Sizes.{length-decimal, length_hex}
 use Rattle.written_numbers.specs.Number.{bytes_of}
 use Rattle.written_numbers.proofs.Written.{bytes-length}
 use Rattle.frame_differences.specs.declared.Said.{Said}
-use Rattle.take_figures.specs.declared.Form.{Form}
-use Rattle.take_figures.specs.declared.Form.TheVariants as form
-use Rattle.take_figures.specs.Figures.{bits_text, dash, infinity, distance_text, stop_text, value_text, figure_text}
+use Rattle.frame_differences.specs.declared.Said.TheVariants.{Single, Double, Whole, Infinity, Linear, Angles, Factors}
+use Rattle.take_figures.specs.Figures.{bits_text, value_text, figure_text}
 
 bits-length : (n v : ℕ) → length (bits_text n v) ≡ n + n
 bits-length n v = omega (arith, length_hex (bytes_of n v), bytes-length n v)
@@ -23,17 +21,17 @@ pub either : (b : Bool) (x y : List ℕ) (n : ℕ) → length x ≤ n → length
 either true x y n h k = h
 either false x y n h k = k
 
-value-length : (f : Form) (s : Said) → length (value_text f s) ≤ 50
-unfolding value_text distance_text stop_text
-value-length form.Single s = omega (arith, bits-length 4 s.first)
-value-length form.Double s = omega (arith, bits-length 8 s.first)
-value-length form.Whole s = omega (arith, length-decimal s.first)
-value-length form.Distance s = either (eqb s.code 1) (bits_text 4 s.first) infinity 50 (omega (arith, bits-length 4 s.first)) (omega arith)
-value-length form.TStop s =
-    either (eqb s.code 1) (bits_text 4 s.first) (decimal_of s.first) 50 (omega (arith, bits-length 4 s.first)) (omega (arith, length-decimal s.first))
-value-length form.TiltRoll s = simp length-append (omega (arith, bits-length 4 s.first, bits-length 4 s.second))
-value-length form.Factors s = simp length-append (omega (arith, bits-length 8 s.first, bits-length 8 s.second, bits-length 8 s.third))
+value-length : (s : Said) → length (value_text s) ≤ 50
+unfolding value_text
+value-length (Single bits) = omega (arith, bits-length 4 bits)
+value-length (Double bits) = omega (arith, bits-length 8 bits)
+value-length (Whole n) = omega (arith, length-decimal n)
+value-length Infinity = omega arith
+value-length (Linear n) = omega (arith, length-decimal n)
+value-length (Angles tilt roll) = simp length-append (omega (arith, bits-length 4 tilt, bits-length 4 roll))
+value-length (Factors red green blue) = simp length-append (omega (arith, bits-length 8 red, bits-length 8 green, bits-length 8 blue))
 
-pub figure_length : (f : Form) (s : Said) → length (figure_text f s) ≤ 50
+pub figure_length : (s : Option Said) → length (figure_text s) ≤ 50
 unfolding figure_text
-figure_length f s = either (eqb s.code 0) dash (value_text f s) 50 (omega arith) (value-length f s)
+figure_length (Some s) = value-length s
+figure_length None = omega arith

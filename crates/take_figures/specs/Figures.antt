@@ -1,11 +1,10 @@
--- A field's figures as text: docs/RULES.md, "L14. Two recordings of one take". What a value says is a code, 0 for nothing, and its
+-- A field's figures as text: docs/RULES.md, "L14. Two recordings of one take". What a field says is nothing, or a kind with its
 -- numbers or its floats' bits.
-use Rattle.std.specs.Prelude.{ℕ, List, [], ◌∷◌, ◌++◌, cond, eqb}
+use Rattle.std.specs.Prelude.{ℕ, List, [], ◌∷◌, ◌++◌, Option, Some, None}
 use Rattle.text.specs.Write.{decimal_of, hex_of}
 use Rattle.written_numbers.specs.Number.{bytes_of}
 use Rattle.frame_differences.specs.declared.Said.{Said}
-use Rattle.take_figures.specs.declared.Form.{Form}
-use Rattle.take_figures.specs.declared.Form.TheVariants as form
+use Rattle.frame_differences.specs.declared.Said.TheVariants.{Single, Double, Whole, Infinity, Linear, Angles, Factors}
 
 -- the bits of a float of n bytes, in hex
 abbrev pub bits_text : ℕ → ℕ → List ℕ
@@ -21,28 +20,23 @@ dash = 45 ∷ []
 abbrev pub infinity : List ℕ
 infinity = 55 ∷ 102 ∷ 56 ∷ 48 ∷ 48 ∷ 48 ∷ 48 ∷ 48 ∷ []
 
-unfoldable pub distance_text : Said → List ℕ
-distance_text s = cond (eqb s.code 1) (bits_text 4 s.first) infinity
+abbrev pub pair_text : ℕ → ℕ → List ℕ
+pair_text tilt roll = bits_text 4 tilt ++ slash ++ bits_text 4 roll
 
--- a number on the linear scale is in decimal
-unfoldable pub stop_text : Said → List ℕ
-stop_text s = cond (eqb s.code 1) (bits_text 4 s.first) (decimal_of s.first)
+abbrev pub three_text : ℕ → ℕ → ℕ → List ℕ
+three_text red green blue = bits_text 8 red ++ slash ++ bits_text 8 green ++ slash ++ bits_text 8 blue
 
-abbrev pub pair_text : Said → List ℕ
-pair_text s = bits_text 4 s.first ++ slash ++ bits_text 4 s.second
-
-abbrev pub three_text : Said → List ℕ
-three_text s = bits_text 8 s.first ++ slash ++ bits_text 8 s.second ++ slash ++ bits_text 8 s.third
-
-unfoldable pub value_text : Form → Said → List ℕ
-value_text form.Single s = bits_text 4 s.first
-value_text form.Double s = bits_text 8 s.first
-value_text form.Whole s = decimal_of s.first
-value_text form.Distance s = distance_text s
-value_text form.TStop s = stop_text s
-value_text form.TiltRoll s = pair_text s
-value_text form.Factors s = three_text s
+-- a number, also one on the linear scale, is in decimal
+unfoldable pub value_text : Said → List ℕ
+value_text (Single bits) = bits_text 4 bits
+value_text (Double bits) = bits_text 8 bits
+value_text (Whole n) = decimal_of n
+value_text Infinity = infinity
+value_text (Linear n) = decimal_of n
+value_text (Angles tilt roll) = pair_text tilt roll
+value_text (Factors red green blue) = three_text red green blue
 
 -- nothing is `-`
-unfoldable pub figure_text : Form → Said → List ℕ
-figure_text f s = cond (eqb s.code 0) dash (value_text f s)
+unfoldable pub figure_text : Option Said → List ℕ
+figure_text (Some s) = value_text s
+figure_text None = dash

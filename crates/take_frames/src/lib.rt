@@ -5,17 +5,16 @@
 ghost use Rattle.std.specs.Prelude.{◌≡◌};
 ghost use Rattle.take_frames.specs.Compared.{of_mask, values_compared, compared};
 
-use arri_values::Values;
 use frame_values::Frame;
 
-#[derive(Clone, Copy)]
+#[derive(Clone, Copy, Debug, PartialEq, Eq)]
 pub enum Recorder {
     Main,
     Backup,
 }
 
 // The fields that differ, bit k for field k of the header's 19, and the values of both sides.
-#[derive(Clone, Copy)]
+#[derive(Clone, Copy, Debug, PartialEq)]
 pub struct Both {
     pub fields: u32,
     pub main: Frame,
@@ -23,7 +22,7 @@ pub struct Both {
 }
 
 // What differs at a number.
-#[derive(Clone, Copy)]
+#[derive(Clone, Copy, Debug, PartialEq)]
 pub enum Kind {
     // Fields of the values that both have.
     Fields(Both),
@@ -36,27 +35,20 @@ pub enum Kind {
 }
 
 // What a recorder has of a frame: its mark and its values.
-#[derive(Clone, Copy)]
+#[derive(Clone, Copy, Debug, PartialEq)]
 pub struct Recorded {
     pub overlong: bool,
-    pub values: Values,
-}
-
-// How two of them compare.
-#[derive(Clone, Copy)]
-pub enum Compared {
-    Same,
-    Differs(Kind),
+    pub values: Option<Frame>,
 }
 
 // The fields that differ, if any does.
-fn of_mask(fields: u32, main: Frame, backup: Frame) -> Compared
+fn of_mask(fields: u32, main: Frame, backup: Frame) -> Option<Kind>
     ensures { result ≡ of_mask fields main backup }
 {
     if fields == 0 {
-        return Compared::Same;
+        return None;
     }
-    Compared::Differs(Kind::Fields(Both {
+    Some(Kind::Fields(Both {
         fields,
         main,
         backup,
@@ -64,35 +56,25 @@ fn of_mask(fields: u32, main: Frame, backup: Frame) -> Compared
 }
 
 // Values against values field by field; values against none are one difference.
-fn values_compared(v: Values, w: Values) -> Compared
+fn values_compared(v: Option<Frame>, w: Option<Frame>) -> Option<Kind>
     ensures { result ≡ values_compared v w }
 {
-    match v {
-        Values::Are(f) => match w {
-            Values::Are(g) => of_mask(frame_differences::fields(f, g), f, g),
-            Values::Nothing => Compared::Differs(Kind::Values(Recorder::Main)),
-        },
-        Values::Nothing => match w {
-            Values::Are(_) => Compared::Differs(Kind::Values(Recorder::Backup)),
-            Values::Nothing => Compared::Same,
-        },
+    match (v, w) {
+        (Some(f), Some(g)) => of_mask(frame_differences::fields(f, g), f, g),
+        (Some(_), None) => Some(Kind::Values(Recorder::Main)),
+        (None, Some(_)) => Some(Kind::Values(Recorder::Backup)),
+        (None, None) => None,
     }
 }
 
-// A mark on one side is one difference; marked on both sides, they are the same.
-pub fn compare(x: Recorded, y: Recorded) -> Compared
+// What differs between two of one number. A mark on one side is one difference; marked on both sides, they are the same.
+pub fn compare(x: Recorded, y: Recorded) -> Option<Kind>
     ensures { result ≡ compared x y }
 {
-    if x.overlong {
-        if y.overlong {
-            return Compared::Same;
-        }
-        return Compared::Differs(Kind::Overlong(Recorder::Main));
+    match (x.overlong, y.overlong) {
+        (true, true) => None,
+        (true, false) => Some(Kind::Overlong(Recorder::Main)),
+        (false, true) => Some(Kind::Overlong(Recorder::Backup)),
+        (false, false) => values_compared(x.values, y.values),
     }
-    if y.overlong {
-        return Compared::Differs(Kind::Overlong(Recorder::Backup));
-    }
-    let v = x.values;
-    let w = y.values;
-    values_compared(v, w)
 }

@@ -1,4 +1,5 @@
 -- The report is in order of number, then of field. Assumes nothing.
+use Rattle.std.specs.Prelude.{Option, Some, None}
 use Prim.Native.Nat.{ℕ, ◌+◌, ◌*◌, ◌≤◌, ◌/◌, ◌%◌}
 use mathlib.Core.Path.{◌≡◌, refl, sym, ap, ◌∙◌}
 use mathlib.Core.List.{List, [], ◌∷◌}
@@ -9,11 +10,10 @@ use Rattle.frame_differences.specs.declared.Said.{Said}
 use Rattle.frame_differences.specs.Said.{said_of}
 use Rattle.frame_differences.specs.Mask.{same, bit, mask_of}
 use Rattle.frame_differences.proofs.Laws.{row_length}
+use Rattle.take_frames.specs.declared.Kind.{Kind}
 use Rattle.take_frames.specs.declared.Recorder.{Recorder}
 use Rattle.take_frames.specs.declared.Recorded.{Recorded}
 use Rattle.takes.specs.declared.Difference.{Difference}
-use Rattle.take_frames.specs.declared.Compared.{Compared}
-use Rattle.take_frames.specs.declared.Compared.TheVariants as compare
 use Rattle.take_frames.specs.Compared.{compared}
 use Rattle.takes.specs.Differences.{only, between, differences, recorded_in}
 use Rattle.take_lists.specs.Order.{Ascending, ByNumber, fields_of, differing, ByField}
@@ -28,10 +28,10 @@ unfolding Ascending only
 only_ascends r n [] = tt
 only_ascends r n (x ∷ xs) = (omega arith, only_ascends r (n + 1) xs)
 
-between_ascends : (n : ℕ) (c : Compared) (l : List Difference) → Ascending (n + 1) l → Ascending n (between n c l)
+between_ascends : (n : ℕ) (c : Option Kind) (l : List Difference) → Ascending (n + 1) l → Ascending n (between n c l)
 unfolding Ascending between
-between_ascends n compare.Same l a = lower n (n + 1) l (omega arith) a
-between_ascends n (compare.Differs k) l a = (omega arith, a)
+between_ascends n None l a = lower n (n + 1) l (omega arith) a
+between_ascends n (Some k) l a = (omega arith, a)
 
 ascends : (n : ℕ) (xs ys : List Recorded) → Ascending n (differences n xs ys)
 unfolding differences
@@ -42,7 +42,7 @@ ascends n (x ∷ xs) (y ∷ ys) = between_ascends n (compared x y) _ (ascends (n
 pub by_number : ByNumber
 by_number s e r f = ascends 0 (recorded_in s e) (recorded_in r f)
 
-mask_fields : (k : ℕ) (xs ys : List Said) → length xs ≡ length ys → fields_of (length xs) k (mask_of xs ys) ≡ differing k xs ys
+mask_fields : (k : ℕ) (xs ys : List (Option Said)) → length xs ≡ length ys → fields_of (length xs) k (mask_of xs ys) ≡ differing k xs ys
 unfolding fields_of differing mask_of bit
 mask_fields k [] ys h = refl
 mask_fields k (x ∷ xs) [] h = absurd (omega arith)

@@ -1,4 +1,5 @@
 -- When the report is empty, and what exchanging the files changes. Assumes nothing.
+use Rattle.std.specs.Prelude.{Option, Some, None}
 use Prim.Native.Nat.{ℕ, ◌+◌}
 use mathlib.Core.Path.{◌≡◌, refl, sym, ap, ◌∙◌}
 use mathlib.Core.List.{List, [], ◌∷◌, map}
@@ -7,19 +8,15 @@ use native.Mathlib.Omega.{arith}
 use borrow.Author.Tests.{eqb-true}
 use lib.Dec.{eqb}
 use Rattle.frame_values.specs.declared.Frame.{Frame}
-use Rattle.arri_values.specs.declared.Values.{Values}
-use Rattle.arri_values.specs.declared.Values.TheVariants as values
 use Rattle.frame_differences.specs.declared.Said.{Said}
 use Rattle.frame_differences.specs.Said.{said_of}
 use Rattle.frame_differences.specs.Mask.{mask_of}
 use Rattle.frame_differences.proofs.Equal.{no_field_differs, same_differs_nowhere, mask_exchanged}
+use Rattle.take_frames.specs.declared.Kind.{Kind}
 use Rattle.take_frames.specs.declared.Recorder.{Recorder}
 use Rattle.take_frames.specs.declared.Recorder.TheVariants as recorder
 use Rattle.take_frames.specs.declared.Recorded.{Recorded}
 use Rattle.takes.specs.declared.Difference.{Difference}
-use Rattle.take_frames.specs.declared.Kind.TheVariants as kind
-use Rattle.take_frames.specs.declared.Compared.{Compared}
-use Rattle.take_frames.specs.declared.Compared.TheVariants as compare
 use Rattle.take_frames.specs.Compared.{of_mask, values_compared, marked, compared}
 use Rattle.takes.specs.Differences.{only, between, differences, recorded_in}
 use Rattle.take_lists.specs.Reports.{values_say, says_as, frame_says, EmptyWhenEqual, other, other_kind, exchanged, Exchange}
@@ -27,59 +24,59 @@ use Rattle.take_lists.specs.Reports as reports
 
 -- Two frames compare as the same exactly where they say the same
 
-values_same : (v w : Values) → values_compared v w ≡ compare.Same → values_say v ≡ values_say w
+values_same : (v w : Option Frame) → values_compared v w ≡ None → values_say v ≡ values_say w
 unfolding values_compared values_say of_mask
-values_same (values.Are f) (values.Are g) h = go (eqb (mask_of (said_of f) (said_of g)) 0) refl h
+values_same (Some f) (Some g) h = go (eqb (mask_of (said_of f) (said_of g)) 0) refl h
   where
-    go : (b : Bool) → eqb (mask_of (said_of f) (said_of g)) 0 ≡ b → of_mask (mask_of (said_of f) (said_of g)) f g ≡ compare.Same → reports.says (said_of f) ≡ reports.says (said_of g)
-    go true e x = ap (λ (l : List Said). reports.says l) (no_field_differs f g (eqb-true _ _ e))
+    go : (b : Bool) → eqb (mask_of (said_of f) (said_of g)) 0 ≡ b → of_mask (mask_of (said_of f) (said_of g)) f g ≡ None → reports.says (said_of f) ≡ reports.says (said_of g)
+    go true e x = ap (λ (l : List (Option Said)). reports.says l) (no_field_differs f g (eqb-true _ _ e))
     go false e x = absurd (let y = rw e at x in let z : ◌≡◌ {A = ℕ} 0 1 = cc in omega arith)
-values_same (values.Are f) values.Nothing h = absurd (let z : ◌≡◌ {A = ℕ} 0 1 = cc in omega arith)
-values_same values.Nothing (values.Are g) h = absurd (let z : ◌≡◌ {A = ℕ} 0 1 = cc in omega arith)
-values_same values.Nothing values.Nothing h = refl
+values_same (Some f) None h = absurd (let z : ◌≡◌ {A = ℕ} 0 1 = cc in omega arith)
+values_same None (Some g) h = absurd (let z : ◌≡◌ {A = ℕ} 0 1 = cc in omega arith)
+values_same None None h = refl
 
-values_equal : (v w : Values) → values_say v ≡ values_say w → values_compared v w ≡ compare.Same
+values_equal : (v w : Option Frame) → values_say v ≡ values_say w → values_compared v w ≡ None
 unfolding values_compared values_say of_mask
-values_equal (values.Are f) (values.Are g) h =
+values_equal (Some f) (Some g) h =
     let z : said_of f ≡ said_of g = cc in
     rw (same_differs_nowhere f g z) refl
-values_equal (values.Are f) values.Nothing h = absurd (let z : ◌≡◌ {A = ℕ} 0 1 = cc in omega arith)
-values_equal values.Nothing (values.Are g) h = absurd (let z : ◌≡◌ {A = ℕ} 0 1 = cc in omega arith)
-values_equal values.Nothing values.Nothing h = refl
+values_equal (Some f) None h = absurd (let z : ◌≡◌ {A = ℕ} 0 1 = cc in omega arith)
+values_equal None (Some g) h = absurd (let z : ◌≡◌ {A = ℕ} 0 1 = cc in omega arith)
+values_equal None None h = refl
 
-pub valued : (v : Values) → values_say v ≡ reports.marked → ⊥
+pub valued : (v : Option Frame) → values_say v ≡ reports.marked → ⊥
 unfolding values_say
-valued (values.Are f) h = let z : ◌≡◌ {A = ℕ} 0 1 = cc in omega arith
-valued values.Nothing h = let z : ◌≡◌ {A = ℕ} 0 1 = cc in omega arith
+valued (Some f) h = let z : ◌≡◌ {A = ℕ} 0 1 = cc in omega arith
+valued None h = let z : ◌≡◌ {A = ℕ} 0 1 = cc in omega arith
 
-marked-same : (a b : Bool) (v w : Values) → marked a b (values_compared v w) ≡ compare.Same → says_as a v ≡ says_as b w
+marked-same : (a b : Bool) (v w : Option Frame) → marked a b (values_compared v w) ≡ None → says_as a v ≡ says_as b w
 unfolding marked says_as
 marked-same true true v w h = refl
 marked-same true false v w h = absurd (let z : ◌≡◌ {A = ℕ} 0 1 = cc in omega arith)
 marked-same false true v w h = absurd (let z : ◌≡◌ {A = ℕ} 0 1 = cc in omega arith)
 marked-same false false v w h = values_same v w h
 
-marked_equal : (a b : Bool) (v w : Values) → says_as a v ≡ says_as b w → marked a b (values_compared v w) ≡ compare.Same
+marked_equal : (a b : Bool) (v w : Option Frame) → says_as a v ≡ says_as b w → marked a b (values_compared v w) ≡ None
 unfolding marked says_as
 marked_equal true true v w h = refl
 marked_equal true false v w h = absurd (valued w (sym h))
 marked_equal false true v w h = absurd (valued v h)
 marked_equal false false v w h = values_equal v w h
 
-pub frames_same : (x y : Recorded) → compared x y ≡ compare.Same → frame_says x ≡ frame_says y
+pub frames_same : (x y : Recorded) → compared x y ≡ None → frame_says x ≡ frame_says y
 unfolding compared frame_says
 frames_same x y = marked-same x.overlong y.overlong x.values y.values
 
-pub frames_equal : (x y : Recorded) → frame_says x ≡ frame_says y → compared x y ≡ compare.Same
+pub frames_equal : (x y : Recorded) → frame_says x ≡ frame_says y → compared x y ≡ None
 unfolding compared frame_says
 frames_equal x y = marked_equal x.overlong y.overlong x.values y.values
 
 -- The report is empty exactly when both lists are equal
 
-between-empty : (n : ℕ) (c : Compared) (l : List Difference) → between n c l ≡ [] → (c ≡ compare.Same) × (l ≡ [])
+between-empty : (n : ℕ) (c : Option Kind) (l : List Difference) → between n c l ≡ [] → (c ≡ None) × (l ≡ [])
 unfolding between
-between-empty n compare.Same l h = (refl, h)
-between-empty n (compare.Differs k) l h = absurd (let z : ◌≡◌ {A = ℕ} 0 1 = cc in omega arith)
+between-empty n None l h = (refl, h)
+between-empty n (Some k) l h = absurd (let z : ◌≡◌ {A = ℕ} 0 1 = cc in omega arith)
 
 pub empty_equal : (n : ℕ) (xs ys : List Recorded) → differences n xs ys ≡ [] → map frame_says xs ≡ map frame_says ys
 unfolding differences only
@@ -108,9 +105,9 @@ empty_when_equal s e r f =
 
 -- Exchanging the files exchanges the sides
 
-unfoldable other_compared : Compared → Compared
-other_compared compare.Same = compare.Same
-other_compared (compare.Differs k) = compare.Differs (other_kind k)
+unfoldable other_compared : Option Kind → Option Kind
+other_compared None = None
+other_compared (Some k) = Some (other_kind k)
 
 mask_other : (m : ℕ) (f g : Frame) → of_mask m g f ≡ other_compared (of_mask m f g)
 unfolding of_mask other_compared other_kind
@@ -120,14 +117,14 @@ mask_other m f g = go (eqb m 0) refl
     go true e = rw e refl
     go false e = rw e refl
 
-values_other : (v w : Values) → values_compared w v ≡ other_compared (values_compared v w)
+values_other : (v w : Option Frame) → values_compared w v ≡ other_compared (values_compared v w)
 unfolding values_compared other_compared other_kind other
-values_other (values.Are f) (values.Are g) = ap (λ (m : ℕ). of_mask m g f) (mask_exchanged (said_of g) (said_of f)) ∙ mask_other _ f g
-values_other (values.Are f) values.Nothing = refl
-values_other values.Nothing (values.Are g) = refl
-values_other values.Nothing values.Nothing = refl
+values_other (Some f) (Some g) = ap (λ (m : ℕ). of_mask m g f) (mask_exchanged (said_of g) (said_of f)) ∙ mask_other _ f g
+values_other (Some f) None = refl
+values_other None (Some g) = refl
+values_other None None = refl
 
-marked_other : (a b : Bool) (v w : Values) → marked b a (values_compared w v) ≡ other_compared (marked a b (values_compared v w))
+marked_other : (a b : Bool) (v w : Option Frame) → marked b a (values_compared w v) ≡ other_compared (marked a b (values_compared v w))
 unfolding marked other_compared other_kind other
 marked_other true true v w = refl
 marked_other true false v w = refl
@@ -138,10 +135,10 @@ compared-other : (x y : Recorded) → compared y x ≡ other_compared (compared 
 unfolding compared
 compared-other x y = marked_other x.overlong y.overlong x.values y.values
 
-between-other : (n : ℕ) (c : Compared) (l : List Difference) → between n (other_compared c) (map exchanged l) ≡ map exchanged (between n c l)
+between-other : (n : ℕ) (c : Option Kind) (l : List Difference) → between n (other_compared c) (map exchanged l) ≡ map exchanged (between n c l)
 unfolding between other_compared exchanged
-between-other n compare.Same l = refl
-between-other n (compare.Differs k) l = refl
+between-other n None l = refl
+between-other n (Some k) l = refl
 
 only-other : (r : Recorder) (n : ℕ) (xs : List Recorded) → only (other r) n xs ≡ map exchanged (only r n xs)
 unfolding only exchanged other_kind

@@ -1,4 +1,5 @@
 -- Stepping gives the report. Assumes nothing.
+use Rattle.std.specs.Prelude.{Option, Some, None, Ok}
 use Prim.Native.Nat.{ℕ, zero, suc, ◌+◌, ◌-◌, ◌≤◌, ◌<◌, ◌^◌, min}
 use mathlib.Core.Path.{◌≡◌, refl, sym, ap, ◌∙◌}
 use mathlib.Core.List.{List, [], ◌∷◌, map}
@@ -16,13 +17,11 @@ use Rattle.frame_walks.specs.Kinds.{kind, goes_on_at}
 use Rattle.frame_walks.specs.Frames.{carried, Shown, after, showing_as, showing}
 use Rattle.frame_lists.proofs.Lists.{same_frames}
 use Rattle.take_frames.specs.declared.Recorder.TheVariants as recorder
-use Rattle.take_frames.specs.declared.Compared.{Compared}
-use Rattle.take_frames.specs.declared.Compared.TheVariants as compare
 use Rattle.takes.specs.declared.Takes.{Takes}
-use Rattle.takes.specs.declared.Step.{Step}
-use Rattle.takes.specs.declared.Step.TheVariants as step
+use Rattle.take_frames.specs.declared.Kind as frame_kind
+use Rattle.takes.specs.declared.Difference.{Difference}
 use Rattle.take_frames.specs.Compared.{compared}
-use Rattle.takes.specs.Takes.{recorded_of, behind, on_shown, frames_in, side_of, takes, met_as, met_of, on_met, next_of, next_from, left_of, takes_step}
+use Rattle.takes.specs.Takes.{recorded_of, behind, on_shown, frames_in, side_of, takes, differing, met_of, on_met, next_of, next_from, left_of, takes_step}
 use Rattle.takes.specs.Differences.{only, between, differences}
 use Rattle.takes.proofs.Walks.{Left, over, on, left}
 use Rattle.takes.proofs.Nexts.{none-refused}
@@ -54,38 +53,36 @@ only-main n s [] = refl
 only-main n s (i ∷ l) = refl
 
 module _ (s : List ℕ) (e : ℕ) (r : List ℕ) (f : ℕ) where
-  carry : (t v : Takes) → report_from s e r f t ≡ report_from s e r f v → (a : Step) → Gives s e r f v a → Gives s e r f t a
+  carry : (t v : Takes) → report_from s e r f t ≡ report_from s e r f v → (a : Option (Difference × Takes)) → Gives s e r f v (Ok a) → Gives s e r f t (Ok a)
   unfolding Gives
-  carry t v x (step.Differs d u) g = (x ∙ g.0, g.1)
-  carry t v x step.Over g = x ∙ g
-  carry t v x step.First g = g
-  carry t v x step.Second g = g
+  carry t v x (Some (d, u)) g = (x ∙ g.0, g.1)
+  carry t v x None g = x ∙ g
 
   module _ (h : e ≤ length s) (g : f ≤ length r) where
-    gives : (k : ℕ) (t : Takes) → e - t.main < k → Numbered s e r f t → Gives s e r f t (next_from s e r f t)
-    unfolding side_of met_of met_as next_of on_met Gives differences only between
+    gives : (k : ℕ) (t : Takes) → e - t.main < k → Numbered s e r f t → Gives s e r f t (Ok (next_from s e r f t))
+    unfolding side_of met_of differing next_of on_met Gives differences only between
     gives zero t b fit = absurd (omega arith)
     gives (suc k) t b fit = go _ _ (left s e h t.main t.number) (left r f g t.backup t.number) refl refl (gives k)
       where
         n : ℕ
         n = t.number
 
-        both : (i j : FrameElement) (c : Compared) → t.main < e → t.main < behind i
+        both : (i j : FrameElement) (c : Option frame_kind.Kind) → t.main < e → t.main < behind i
             → left_of s e t.main n ≡ i ∷ left_of s e (behind i) (after n)
             → left_of r f t.backup n ≡ j ∷ left_of r f (behind j) (after n)
             → compared (recorded_of s i) (recorded_of r j) ≡ c
-            → ((v : Takes) → e - v.main < k → Numbered s e r f v → Gives s e r f v (next_from s e r f v))
+            → ((v : Takes) → e - v.main < k → Numbered s e r f v → Gives s e r f v (Ok (next_from s e r f v)))
             → Gives s e r f t
-            (on_met (λ u. next_of s r u (left_of s e (behind i) (after n)) (left_of r f (behind j) (after n)))
-            (met_as n (takes (behind i) (behind j) (after n)) c))
-        both i j compare.Same m o px py x ih =
+            (Ok (on_met (λ u. next_of s r u (left_of s e (behind i) (after n)) (left_of r f (behind j) (after n)))
+            (Some (differing n c, takes (behind i) (behind j) (after n)))))
+        both i j None m o px py x ih =
             let lx = ap length px in
             let ly = ap length py in
             let z = after_so n (omega (arith, lx, fit.0)) in
             let v = takes (behind i) (behind j) (after n) in
             carry t v (rw (px, py, x, z) refl) (next_of s r v (left_of s e (behind i) (after n)) (left_of r f (behind j) (after n)))
             (ih v (omega (arith, b, m, o)) (omega (arith, z, lx, fit.0), omega (arith, z, ly, fit.1)))
-        both i j (compare.Differs q) m o px py x ih =
+        both i j (Some q) m o px py x ih =
             let lx = ap length px in
             let ly = ap length py in
             let z = after_so n (omega (arith, lx, fit.0)) in
@@ -93,8 +90,8 @@ module _ (s : List ℕ) (e : ℕ) (r : List ℕ) (f : ℕ) where
 
         go : (xs ys : List FrameElement) → Left s e t.main t.number xs → Left r f t.backup t.number ys
             → left_of s e t.main n ≡ xs → left_of r f t.backup n ≡ ys
-            → ((v : Takes) → e - v.main < k → Numbered s e r f v → Gives s e r f v (next_from s e r f v))
-            → Gives s e r f t (next_of s r t xs ys)
+            → ((v : Takes) → e - v.main < k → Numbered s e r f v → Gives s e r f v (Ok (next_from s e r f v)))
+            → Gives s e r f t (Ok (next_of s r t xs ys))
         go _ _ over over px py ih = rw (px, py) refl
         go _ _ over (on j a o) px py ih =
             let ly = ap length py in

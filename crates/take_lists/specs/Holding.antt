@@ -1,63 +1,43 @@
 -- Values whose floats are of their formats, as every value of a frame is that a program has: docs/RULES.md, "L14. Two recordings of one take".
-use Rattle.std.specs.Prelude.{ℕ, ◌≡◌, List, [], ◌∷◌, Bool, true, false, T}
+use Rattle.std.specs.Prelude.{ℕ, ◌≡◌, List, [], ◌∷◌, Bool, true, false, T, Option, Some, None, Float}
 use Rattle.std.specs.Float.{binary32, binary64}
 use Rattle.std.specs.Float.Ieee.{fits}
-use Rattle.frame_values.specs.declared.Single.{Single}
-use Rattle.frame_values.specs.declared.Single.TheVariants as single
-use Rattle.frame_values.specs.declared.Double.{Double}
-use Rattle.frame_values.specs.declared.Double.TheVariants as double
-use Rattle.frame_values.specs.declared.Whole32.{Whole32}
-use Rattle.frame_values.specs.declared.Whole32.TheVariants as whole32
-use Rattle.frame_values.specs.declared.Whole64.{Whole64}
-use Rattle.frame_values.specs.declared.Whole64.TheVariants as whole64
 use Rattle.frame_values.specs.declared.Distance.{Distance}
 use Rattle.frame_values.specs.declared.Distance.TheVariants as distance
 use Rattle.frame_values.specs.declared.TStop.{TStop}
 use Rattle.frame_values.specs.declared.TStop.TheVariants as stop
-use Rattle.frame_values.specs.declared.TiltRoll.{TiltRoll}
-use Rattle.frame_values.specs.declared.TiltRoll.TheVariants as angles
-use Rattle.frame_values.specs.declared.Factors.{Factors}
-use Rattle.frame_values.specs.declared.Factors.TheVariants as factors
 use Rattle.frame_values.specs.declared.Frame.{Frame}
-use Rattle.arri_values.specs.declared.Values.{Values}
-use Rattle.arri_values.specs.declared.Values.TheVariants as values
 use Rattle.frame_differences.specs.Said.{said_of}
 use Rattle.take_frames.specs.declared.Recorded.{Recorded}
 use Rattle.takes.specs.Differences.{differences}
+use Rattle.frame_values.specs.declared.Angles.{Angles}
+use Rattle.frame_values.specs.declared.Colours.{Colours}
 
-unfoldable pub HoldsSingle : Single → Type 0
-HoldsSingle (single.Is x) = T (fits binary32 x)
-HoldsSingle single.Nothing = Unit {0}
+unfoldable pub HoldsSingle : Option Float → Type 0
+HoldsSingle (Some x) = T (fits binary32 x)
+HoldsSingle None = Unit {0}
 
-unfoldable pub HoldsDouble : Double → Type 0
-HoldsDouble (double.Is x) = T (fits binary64 x)
-HoldsDouble double.Nothing = Unit {0}
+unfoldable pub HoldsDouble : Option Float → Type 0
+HoldsDouble (Some x) = T (fits binary64 x)
+HoldsDouble None = Unit {0}
 
-unfoldable pub HoldsWhole32 : Whole32 → Type 0
-HoldsWhole32 (whole32.Is x) = Unit {0}
-HoldsWhole32 whole32.Nothing = Unit {0}
+unfoldable pub HoldsDistance : Option Distance → Type 0
+HoldsDistance (Some (distance.Metres x)) = T (fits binary32 x)
+HoldsDistance (Some distance.Infinity) = Unit {0}
+HoldsDistance None = Unit {0}
 
-unfoldable pub HoldsWhole64 : Whole64 → Type 0
-HoldsWhole64 (whole64.Is x) = Unit {0}
-HoldsWhole64 whole64.Nothing = Unit {0}
+unfoldable pub HoldsTStop : Option TStop → Type 0
+HoldsTStop (Some (stop.Is x)) = T (fits binary32 x)
+HoldsTStop (Some (stop.Linear x)) = Unit {0}
+HoldsTStop None = Unit {0}
 
-unfoldable pub HoldsDistance : Distance → Type 0
-HoldsDistance (distance.Metres x) = T (fits binary32 x)
-HoldsDistance distance.Infinity = Unit {0}
-HoldsDistance distance.Nothing = Unit {0}
+unfoldable pub HoldsTiltRoll : Option Angles → Type 0
+HoldsTiltRoll (Some x) = T (fits binary32 x.tilt) × T (fits binary32 x.roll)
+HoldsTiltRoll None = Unit {0}
 
-unfoldable pub HoldsTStop : TStop → Type 0
-HoldsTStop (stop.Is x) = T (fits binary32 x)
-HoldsTStop (stop.Linear x) = Unit {0}
-HoldsTStop stop.Nothing = Unit {0}
-
-unfoldable pub HoldsTiltRoll : TiltRoll → Type 0
-HoldsTiltRoll (angles.Are x) = T (fits binary32 x.tilt) × T (fits binary32 x.roll)
-HoldsTiltRoll angles.Nothing = Unit {0}
-
-unfoldable pub HoldsFactors : Factors → Type 0
-HoldsFactors (factors.Are x) = T (fits binary64 x.red) × T (fits binary64 x.green) × T (fits binary64 x.blue)
-HoldsFactors factors.Nothing = Unit {0}
+unfoldable pub HoldsFactors : Option Colours → Type 0
+HoldsFactors (Some x) = T (fits binary64 x.red) × T (fits binary64 x.green) × T (fits binary64 x.blue)
+HoldsFactors None = Unit {0}
 
 abbrev pub Holds : Frame → Type 0
 Holds f =
@@ -78,12 +58,12 @@ abbrev pub Determined : Type 0
 Determined = (f g : Frame) → Holds f → Holds g → said_of f ≡ said_of g → f ≡ g
 
 -- a recorder's frame as a walk gives it: over-long, it has no values; else its floats are of their formats
-unfoldable pub HeldValues : Values → Type 0
-HeldValues (values.Are f) = Holds f
-HeldValues values.Nothing = Unit {0}
+unfoldable pub HeldValues : Option Frame → Type 0
+HeldValues (Some f) = Holds f
+HeldValues None = Unit {0}
 
-unfoldable pub HeldAs : Bool → Values → Type 0
-HeldAs true v = v ≡ values.Nothing
+unfoldable pub HeldAs : Bool → Option Frame → Type 0
+HeldAs true v = v ≡ None
 HeldAs false v = HeldValues v
 
 unfoldable pub AllHeld : List Recorded → Type 0

@@ -1,5 +1,5 @@
 -- The report's order: by number, then by field: docs/RULES.md, "L14. Two recordings of one take".
-use Rattle.std.specs.Prelude.{ℕ, zero, suc, ◌+◌, ◌≤◌, ◌/◌, ◌%◌, ◌≡◌, List, [], ◌∷◌, cond, eqb, length}
+use Rattle.std.specs.Prelude.{ℕ, zero, suc, ◌+◌, ◌≤◌, ◌/◌, ◌%◌, ◌≡◌, List, [], ◌∷◌, cond, eqb, Option}
 use Rattle.frame_values.specs.declared.Frame.{Frame}
 use Rattle.frame_differences.specs.declared.Said.{Said}
 use Rattle.frame_differences.specs.Said.{said_of}
@@ -21,7 +21,7 @@ fields_of zero k m = []
 fields_of (suc j) k m = cond (eqb (m % 2) 0) (fields_of j (k + 1) (m / 2)) (k ∷ fields_of j (k + 1) (m / 2))
 
 -- the fields in which two rows differ, in their order from k on
-unfoldable pub differing : ℕ → List Said → List Said → List ℕ
+unfoldable pub differing : ℕ → List (Option Said) → List (Option Said) → List ℕ
 differing k [] ys = []
 differing k (x ∷ xs) [] = []
 differing k (x ∷ xs) (y ∷ ys) = cond (same x y) (differing (k + 1) xs ys) (k ∷ differing (k + 1) xs ys)

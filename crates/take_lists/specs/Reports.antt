@@ -1,7 +1,5 @@
 -- The report of two recordings, whole: docs/RULES.md, "L14. Two recordings of one take".
-use Rattle.std.specs.Prelude.{ℕ, ◌+◌, ◌≤◌, ◌<◌, ◌^◌, ◌≡◌, List, [], ◌∷◌, map, Bool, true, false, length}
-use Rattle.arri_values.specs.declared.Values.{Values}
-use Rattle.arri_values.specs.declared.Values.TheVariants as values
+use Rattle.std.specs.Prelude.{ℕ, ◌+◌, ◌≤◌, ◌<◌, ◌^◌, ◌≡◌, List, [], ◌∷◌, map, Bool, true, false, length, Option, Some, None, Result, Ok, Err}
 use Rattle.frame_differences.specs.declared.Said.{Said}
 use Rattle.frame_differences.specs.Said.{said_of}
 use Rattle.take_frames.specs.declared.Recorder.{Recorder}
@@ -12,23 +10,23 @@ use Rattle.take_frames.specs.declared.Kind.TheVariants as kind
 use Rattle.takes.specs.declared.Difference.{Difference}
 use Rattle.take_frames.specs.declared.Recorded.{Recorded}
 use Rattle.takes.specs.declared.Takes.{Takes}
-use Rattle.takes.specs.declared.Step.{Step}
-use Rattle.takes.specs.declared.Step.TheVariants as step
+use Rattle.takes.specs.declared.EndTooLarge.{EndTooLarge}
 use Rattle.takes.specs.Takes.{recorded_of, difference, takes, left_of, takes_step}
 use Rattle.takes.specs.Differences.{differences, recorded_in, differences_of}
+use Rattle.frame_values.specs.declared.Frame.{Frame}
 
 -- what a frame of the list says: that it is marked over-long, that it has no values, or what its 19 fields say, floats by
 -- their bits
 pub data Mark : Type 0 where
   marked : Mark
   without : Mark
-  says : List Said → Mark
+  says : List (Option Said) → Mark
 
-unfoldable pub values_say : Values → Mark
-values_say (values.Are f) = says (said_of f)
-values_say values.Nothing = without
+unfoldable pub values_say : Option Frame → Mark
+values_say (Some f) = says (said_of f)
+values_say None = without
 
-unfoldable pub says_as : Bool → Values → Mark
+unfoldable pub says_as : Bool → Option Frame → Mark
 says_as true v = marked
 says_as false v = values_say v
 
@@ -79,11 +77,10 @@ abbrev pub Numbered : List ℕ → ℕ → List ℕ → ℕ → Takes → Type 0
 Numbered s e r f t =
     (t.number + length (left_of s e t.main t.number) < 2 ^ 64) × (t.number + length (left_of r f t.backup t.number) < 2 ^ 64)
 
-unfoldable pub Gives : List ℕ → ℕ → List ℕ → ℕ → Takes → Step → Type 0
-Gives s e r f t (step.Differs d u) = (report_from s e r f t ≡ d ∷ report_from s e r f u) × Numbered s e r f u
-Gives s e r f t step.Over = report_from s e r f t ≡ []
-Gives s e r f t step.First = ⊥
-Gives s e r f t step.Second = ⊥
+unfoldable pub Gives : List ℕ → ℕ → List ℕ → ℕ → Takes → Result (Option (Difference × Takes)) EndTooLarge → Type 0
+Gives s e r f t (Ok (Some (d, u))) = (report_from s e r f t ≡ d ∷ report_from s e r f u) × Numbered s e r f u
+Gives s e r f t (Ok None) = report_from s e r f t ≡ []
+Gives s e r f t (Err x) = ⊥
 
 abbrev pub Stepping : Type 0
 Stepping =

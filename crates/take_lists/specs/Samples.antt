@@ -1,76 +1,71 @@
 -- Worked numbers of the report: docs/RULES.md, "L14. Two recordings of one take".
-use Rattle.std.specs.Prelude.{ℕ, ◌^◌, ◌≡◌, List, [], ◌∷◌, ◌++◌, map, true, false, Float}
+use Rattle.std.specs.Prelude.{ℕ, ◌^◌, ◌≡◌, List, [], ◌∷◌, ◌++◌, map, true, false, Option, Some, None, Ok, Err}
 use Rattle.std.specs.Float.{binary32, binary64}
 use Rattle.std.specs.Float.Ieee.{of_bits}
 use Rattle.frame_values.specs.declared.Distance.{Distance}
 use Rattle.frame_values.specs.declared.Distance.TheVariants as distance
-use Rattle.frame_values.specs.declared.Double.TheVariants as double
-use Rattle.frame_values.specs.declared.Factors.TheVariants as factors
-use Rattle.frame_values.specs.declared.Single.TheVariants as single
 use Rattle.frame_values.specs.declared.TStop.{TStop}
 use Rattle.frame_values.specs.declared.TStop.TheVariants as stop
-use Rattle.frame_values.specs.declared.TiltRoll.TheVariants as angles
-use Rattle.frame_values.specs.declared.Whole32.TheVariants as whole32
-use Rattle.frame_values.specs.declared.Whole64.TheVariants as whole64
 use Rattle.frame_values.specs.declared.Frame.{Frame}
 use Rattle.frame_walks.specs.Labels.{picture_metadata, frame_data}
-use Rattle.arri_values.specs.declared.Values.TheVariants as values
+use Rattle.frame_differences.specs.declared.Said.{Said}
+use Rattle.frame_differences.specs.declared.Said.TheVariants as said
 use Rattle.frame_differences.specs.Said.{of_double, of_distance, said_of}
 use Rattle.frame_differences.specs.Mask.{mask_of}
 use Rattle.take_frames.specs.declared.Recorder.TheVariants.{Main, Backup}
 use Rattle.take_frames.specs.declared.Kind.{Kind}
 use Rattle.take_frames.specs.declared.Kind.TheVariants as kind
 use Rattle.take_frames.specs.declared.Recorded.{Recorded}
-use Rattle.takes.specs.declared.Step.TheVariants as step
+use Rattle.takes.specs.declared.EndTooLarge.TheVariants.{First, Second}
 use Rattle.take_frames.specs.Compared.{fields}
 use Rattle.takes.specs.Takes.{difference, takes, takes_step}
 use Rattle.takes.specs.Differences.{differences, recorded_in, differences_of}
 use Rattle.take_lists.specs.Order.{fields_of}
 
 -- exposure index 800, a focus distance, a T-stop and a tint by its bits; nothing else
-abbrev pub sample : Distance → TStop → ℕ → Frame
+abbrev pub sample : Option Distance → Option TStop → ℕ → Frame
 sample d t tint = record {
-  focal_length = single.Nothing;
+  focal_length = None;
   focus_distance = d;
   t_stop = t;
-  exposure_time = double.Nothing;
-  shutter_angle = single.Nothing;
-  tilt_roll = angles.Nothing;
-  exposure_index = whole32.Is 800;
-  white_balance = whole32.Nothing;
-  nd_density = double.Nothing;
-  effective_focal_length = double.Nothing;
-  white_balance_factors = factors.Nothing;
+  exposure_time = None;
+  shutter_angle = None;
+  tilt_roll = None;
+  exposure_index = Some 800;
+  white_balance = None;
+  nd_density = None;
+  effective_focal_length = None;
+  white_balance_factors = None;
   encoders = record {
-    focus_lds = whole64.Nothing;
-    focus_motor = whole64.Nothing;
-    zoom_lds = whole64.Nothing;
-    zoom_motor = whole64.Nothing;
-    iris_lds = whole64.Nothing;
-    iris_motor = whole64.Nothing;
+    focus_lds = None;
+    focus_motor = None;
+    zoom_lds = None;
+    zoom_motor = None;
+    iris_lds = None;
+    iris_motor = None;
   };
-  tint = double.Is (of_bits binary64 tint);
-  sensor_rate = double.Nothing;
+  tint = Some (of_bits binary64 tint);
+  sensor_rate = None;
 }
 
-abbrev pub metre : Distance
-metre = distance.Metres (of_bits binary32 0x3f800000)
+abbrev pub metre : Option Distance
+metre = Some (distance.Metres (of_bits binary32 0x3f800000))
 
 -- infinity and +0.0 against 1.0 m and -0.0
 abbrev pub main : Frame
-main = sample distance.Infinity stop.Nothing 0
+main = sample (Some distance.Infinity) None 0
 
 abbrev pub backup : Frame
-backup = sample metre stop.Nothing (2 ^ 63)
+backup = sample metre None (2 ^ 63)
 
 abbrev pub has : Frame → Recorded
-has f = record { overlong = false; values = values.Are f }
+has f = record { overlong = false; values = Some f }
 
 abbrev pub none : Recorded
-none = record { overlong = false; values = values.Nothing }
+none = record { overlong = false; values = None }
 
 abbrev pub long : Recorded
-long = record { overlong = true; values = values.Nothing }
+long = record { overlong = true; values = None }
 
 -- fields 1 and 17: focus distance and tint
 abbrev pub Masks : Type 0
@@ -78,8 +73,8 @@ Masks =
     (mask_of (said_of main) (said_of backup) ≡ 0x20002)
     × (mask_of (said_of backup) (said_of main) ≡ 0x20002)
     × (mask_of (said_of main) (said_of main) ≡ 0)
-    × (mask_of (said_of (sample distance.Infinity stop.Nothing 0)) (said_of (sample distance.Nothing stop.Nothing 0)) ≡ 2)
-    × (mask_of (said_of (sample metre (stop.Is (of_bits binary32 0)) 0)) (said_of (sample metre (stop.Linear 0) 0)) ≡ 4)
+    × (mask_of (said_of (sample (Some distance.Infinity) None 0)) (said_of (sample None None 0)) ≡ 2)
+    × (mask_of (said_of (sample metre (Some (stop.Is (of_bits binary32 0))) 0)) (said_of (sample metre (Some (stop.Linear 0)) 0)) ≡ 4)
     × (fields_of 19 0 0x20002 ≡ 1 ∷ 17 ∷ [])
 
 abbrev pub Reported : Type 0
@@ -106,10 +101,10 @@ Files =
 -- the first file's refusal comes before the second's
 abbrev pub Refusals : Type 0
 Refusals =
-    (takes_step [] 1 [] 1 (takes 0 0 0) ≡ step.First)
-    × (takes_step [] 0 [] 1 (takes 0 0 0) ≡ step.Second)
-    × (takes_step [] 0 [] 0 (takes 0 0 0) ≡ step.Over)
-    × (takes_step short 18 [] 0 (takes 0 0 0) ≡ step.Differs (difference 0 (kind.Only Main)) (takes 18 0 1))
+    (takes_step [] 1 [] 1 (takes 0 0 0) ≡ Err First)
+    × (takes_step [] 0 [] 1 (takes 0 0 0) ≡ Err Second)
+    × (takes_step [] 0 [] 0 (takes 0 0 0) ≡ Ok None)
+    × (takes_step short 18 [] 0 (takes 0 0 0) ≡ Ok (Some (difference 0 (kind.Only Main), takes 18 0 1)))
 
 -- an item of an ALEXA 35 with a number
 abbrev pub item_key : ℕ → ℕ → List ℕ
@@ -131,12 +126,12 @@ abbrev pub backup_file : List ℕ
 backup_file = take35 (0x00 ∷ 0x00 ∷ 0x03 ∷ 0xe8 ∷ []) 0x80
 
 -- the fields that differ, and what the distances and the tints of both sides say
-unfoldable pub seen : Kind → List ℕ
+unfoldable pub seen : Kind → List (ℕ × Option Said)
 seen (kind.Fields b) =
-    b.fields
-    ∷ (of_distance b.main.focus_distance).code ∷ (of_distance b.main.focus_distance).first
-    ∷ (of_distance b.backup.focus_distance).code ∷ (of_distance b.backup.focus_distance).first
-    ∷ (of_double b.main.tint).first ∷ (of_double b.backup.tint).first
+    (b.fields, of_distance b.main.focus_distance)
+    ∷ (b.fields, of_distance b.backup.focus_distance)
+    ∷ (b.fields, of_double b.main.tint)
+    ∷ (b.fields, of_double b.backup.tint)
     ∷ []
 seen (kind.Values r) = []
 seen (kind.Overlong r) = []
@@ -145,4 +140,4 @@ seen (kind.Only r) = []
 abbrev pub Takes35 : Type 0
 Takes35 =
     map (λ d. seen d.kind) (differences_of main_file 96 backup_file 96)
-    ≡ (0x20002 ∷ 2 ∷ 0 ∷ 1 ∷ 0x3f800000 ∷ 0 ∷ 2 ^ 63 ∷ []) ∷ []
+    ≡ ((0x20002, Some said.Infinity) ∷ (0x20002, Some (said.Single 0x3f800000)) ∷ (0x20002, Some (said.Double 0)) ∷ (0x20002, Some (said.Double (2 ^ 63))) ∷ []) ∷ []

@@ -14,7 +14,7 @@ use std::fs::File;
 use std::io::{Print, Seek, SeekFrom};
 use std::rt::{Env, Files, HostRuntime};
 use streams::{fail, path_of, word};
-use takes::{Difference, Met, Side, Takes};
+use takes::{Difference, Stop, Takes};
 use tapes::Tape;
 
 // Whether the program was given an i-th word.
@@ -80,12 +80,10 @@ fn show(rt: &HostRuntime, d: Difference) -> bool {
 }
 
 // Shows what differs at a number, and answers where both files go on: none where they don't.
-fn meet(rt: &HostRuntime, t: Takes, x: Side, y: Side) -> Option<Takes> {
-    let m = takes::meet(t, x, y);
-    match m {
-        Met::Same(u) => Some(u),
-        Met::Differs(d, u) => show(rt, d).then_some(u),
-        Met::Over => None,
+fn meet(rt: &HostRuntime, t: Takes, x: Option<Stop>, y: Option<Stop>) -> Option<Takes> {
+    match takes::meet(t, x, y)? {
+        (None, u) => Some(u),
+        (Some(d), u) => show(rt, d).then_some(u),
     }
 }
 

@@ -1,5 +1,5 @@
 -- The frames that are left of a walk: a frame, and those that are left from behind it. Assumes nothing.
-use Rattle.std.proofs.Common.{◌≡◌, ℕ, ◌<◌, ◌≤◌, false, List, [], ◌∷◌, length, sym, refl, ap, ◌∙◌, arith, le-ltb}
+use Rattle.std.proofs.Common.{Some, None, Ok, Err, ◌≡◌, ℕ, ◌<◌, ◌≤◌, false, List, [], ◌∷◌, length, sym, refl, ap, ◌∙◌, arith, le-ltb}
 use Rattle.steps.specs.Told.{found, nothing, refused}
 use Rattle.steps.specs.Tells.{tells, passes}
 use Rattle.steps.specs.Next.{Cursor, cursor}
@@ -8,6 +8,8 @@ use Rattle.steps.proofs.Next.{of_next}
 use Rattle.klv.specs.declared.Klv.{Klv}
 use Rattle.klv.specs.Item.{Item}
 use Rattle.walk.specs.declared.Way.TheVariants.{Finished}
+use Rattle.walk.specs.declared.WalkError.{WalkError}
+use Rattle.walk.specs.Told.{refused_by}
 use Rattle.frame_walks.specs.declared.Camera.TheVariants.{Arri}
 use Rattle.frame_walks.specs.declared.Kind.{Kind}
 use Rattle.frame_walks.specs.declared.Kind.TheVariants as kinds
@@ -21,7 +23,6 @@ use Rattle.frame_walks.proofs.Seeks.{record_moves, record_goes, record_never, fr
 use Rattle.frame_lists.specs.Steps.{frames_from}
 use Rattle.frame_lists.proofs.Steps.{listed_by_steps, nothing_beside}
 use Rattle.arri_values.specs.Values.{values_of}
-use Rattle.takes.specs.declared.Side.TheVariants as side
 use Rattle.takes.specs.Takes.{behind, on_shown, frames_in, left_of, side_of}
 
 -- where a step from a place and a number stands
@@ -135,21 +136,21 @@ module _ (s : List ℕ) (e : ℕ) where
 
     -- What ARRI's step answers is the next frame that is left
 
-    pub side_frame : (f : FrameElement) (m : ℕ) (c : Place) → told 1 (start p n) (answer.Frame f m c) ≡ frame_step Arri (Finished e) s (start p n)
-        → side.Frame (record { recorded = record { overlong = f.overlong; values = values_of s f }; next = c.at }) ≡ side_of s (left_of s e p n)
+    pub side_frame : (f : FrameElement) (m : ℕ) (c : Place) → told (start p n) (Ok (answer.Frame f m c)) ≡ frame_step Arri (Finished e) s (start p n)
+        → Some (record { recorded = record { overlong = f.overlong; values = values_of s f }; next = c.at }) ≡ side_of s (left_of s e p n)
     unfolding told side_of
     side_frame f m c x =
         let l = left-frame f m (place_at c) (sym x) in
         rw (l.0, l.1) refl
 
-    pub side_given : (v : Klv) (m : ℕ) (c : Place) → told 1 (start p n) (answer.Given v m c) ≡ frame_step Arri (Finished e) s (start p n) → side.Over ≡ side_of s (left_of s e p n)
+    pub side_given : (v : Klv) (m : ℕ) (c : Place) → told (start p n) (Ok (answer.Given v m c)) ≡ frame_step Arri (Finished e) s (start p n) → None ≡ side_of s (left_of s e p n)
     unfolding told
     side_given v m c x = absurd (never_given v m (place_at c) (sym x))
 
-    pub side_over : (c : Place) → told 1 (start p n) (answer.Rests c) ≡ frame_step Arri (Finished e) s (start p n) → side.Over ≡ side_of s (left_of s e p n)
+    pub side_over : (c : Place) → told (start p n) (Ok (answer.Rests c)) ≡ frame_step Arri (Finished e) s (start p n) → None ≡ side_of s (left_of s e p n)
     unfolding told side_of
     side_over c x = rw (left_over (place_at c) (sym x)) refl
 
-    pub side_refused : told 1 (start p n) answer.Refused ≡ frame_step Arri (Finished e) s (start p n) → side.Over ≡ side_of s (left_of s e p n)
+    pub side_refused : (z : WalkError) → told (start p n) (Err z) ≡ frame_step Arri (Finished e) s (start p n) → None ≡ side_of s (left_of s e p n)
     unfolding told
-    side_refused x = absurd (never_refused 1 (start p n) (sym x))
+    side_refused z x = absurd (never_refused (refused_by z) (start p n) (sym x))

@@ -1,14 +1,13 @@
 -- The report of two recordings, whole: docs/RULES.md, "L14. Two recordings of one take".
-use Rattle.std.specs.Prelude.{ℕ, ◌+◌, List, [], ◌∷◌, map}
+use Rattle.std.specs.Prelude.{ℕ, ◌+◌, List, [], ◌∷◌, map, Option, Some, None}
 use Rattle.frame_walks.specs.declared.Camera.TheVariants as camera
 use Rattle.frame_lists.specs.Lists.{frames_of}
 use Rattle.take_frames.specs.declared.Recorder.{Recorder}
 use Rattle.take_frames.specs.declared.Recorder.TheVariants.{Main, Backup}
+use Rattle.take_frames.specs.declared.Kind.{Kind}
 use Rattle.take_frames.specs.declared.Kind.TheVariants as kind
 use Rattle.takes.specs.declared.Difference.{Difference}
 use Rattle.take_frames.specs.declared.Recorded.{Recorded}
-use Rattle.take_frames.specs.declared.Compared.{Compared}
-use Rattle.take_frames.specs.declared.Compared.TheVariants as compare
 use Rattle.take_frames.specs.Compared.{compared}
 use Rattle.takes.specs.Takes.{recorded_of, frames_in, difference}
 
@@ -18,9 +17,9 @@ only r n [] = []
 only r n (x ∷ xs) = difference n (kind.Only r) ∷ only r (n + 1) xs
 
 -- what differs at a number, before the rest
-unfoldable pub between : ℕ → Compared → List Difference → List Difference
-between n compare.Same l = l
-between n (compare.Differs k) l = difference n k ∷ l
+unfoldable pub between : ℕ → Option Kind → List Difference → List Difference
+between n None l = l
+between n (Some k) l = difference n k ∷ l
 
 -- frames meet by number, from n on
 unfoldable pub differences : ℕ → List Recorded → List Recorded → List Difference

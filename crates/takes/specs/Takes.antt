@@ -1,5 +1,5 @@
 -- The step over two recordings, by the frames that are left of both: docs/RULES.md, "L14. Two recordings of one take".
-use Rattle.std.specs.Prelude.{ℕ, cond, List, [], ◌∷◌, length, nat_lt}
+use Rattle.std.specs.Prelude.{ℕ, cond, List, [], ◌∷◌, length, nat_lt, Option, Some, None, Result, Ok, Err}
 use Rattle.steps.specs.Next.{cursor}
 use Rattle.steps.specs.Passed.{Passed}
 use Rattle.klv.specs.Item.{past}
@@ -8,22 +8,15 @@ use Rattle.frame_walks.specs.declared.FrameElement.{FrameElement}
 use Rattle.frame_walks.specs.Frames.{carried, Shown, framed, given, after}
 use Rattle.frame_lists.specs.Steps.{frames_from}
 use Rattle.arri_values.specs.Values.{values_of}
-use Rattle.take_frames.specs.declared.Recorder.{Recorder}
 use Rattle.take_frames.specs.declared.Recorder.TheVariants.{Main, Backup}
 use Rattle.take_frames.specs.declared.Kind.{Kind}
 use Rattle.take_frames.specs.declared.Kind.TheVariants as kind
 use Rattle.takes.specs.declared.Difference.{Difference}
 use Rattle.take_frames.specs.declared.Recorded.{Recorded}
-use Rattle.take_frames.specs.declared.Compared.{Compared}
-use Rattle.take_frames.specs.declared.Compared.TheVariants as compare
 use Rattle.takes.specs.declared.Stop.{Stop}
-use Rattle.takes.specs.declared.Side.{Side}
-use Rattle.takes.specs.declared.Side.TheVariants as side
 use Rattle.takes.specs.declared.Takes.{Takes}
-use Rattle.takes.specs.declared.Met.{Met}
-use Rattle.takes.specs.declared.Met.TheVariants as met
-use Rattle.takes.specs.declared.Step.{Step}
-use Rattle.takes.specs.declared.Step.TheVariants as step
+use Rattle.takes.specs.declared.EndTooLarge.{EndTooLarge}
+use Rattle.takes.specs.declared.EndTooLarge.TheVariants.{First, Second}
 use Rattle.take_frames.specs.Compared.{compared}
 
 -- The frames of a file
@@ -53,9 +46,9 @@ abbrev pub stop_of : List ℕ → FrameElement → Stop
 stop_of s f = record { recorded = recorded_of s f; next = behind f }
 
 -- the next frame of a file, of those that are left
-unfoldable pub side_of : List ℕ → List FrameElement → Side
-side_of s [] = side.Over
-side_of s (f ∷ l) = side.Frame (stop_of s f)
+unfoldable pub side_of : List ℕ → List FrameElement → Option Stop
+side_of s [] = None
+side_of s (f ∷ l) = Some (stop_of s f)
 
 -- Both files at one number
 
@@ -65,37 +58,38 @@ takes p q n = record { main = p; backup = q; number = n }
 abbrev pub difference : ℕ → Kind → Difference
 difference n k = record { number = n; kind = k }
 
-unfoldable pub met_as : ℕ → Takes → Compared → Met
-met_as n u compare.Same = met.Same u
-met_as n u (compare.Differs k) = met.Differs (difference n k) u
+-- what differs at it, if anything does
+unfoldable pub differing : ℕ → Option Kind → Option Difference
+differing n None = None
+differing n (Some k) = Some (difference n k)
 
--- a file that is over keeps its place
-unfoldable pub met_of : Takes → Side → Side → Met
-met_of t (side.Frame p) (side.Frame q) = met_as t.number (takes p.next q.next (after t.number)) (compared p.recorded q.recorded)
-met_of t (side.Frame p) side.Over = met.Differs (difference t.number (kind.Only Main)) (takes p.next t.backup (after t.number))
-met_of t side.Over (side.Frame q) = met.Differs (difference t.number (kind.Only Backup)) (takes t.main q.next (after t.number))
-met_of t side.Over side.Over = met.Over
+-- what differs, and where both walks go on; a file that is over keeps its place, and nothing comes where both are
+unfoldable pub met_of : Takes → Option Stop → Option Stop → Option (Option Difference × Takes)
+met_of t (Some p) (Some q) = Some (differing t.number (compared p.recorded q.recorded), takes p.next q.next (after t.number))
+met_of t (Some p) None = Some (Some (difference t.number (kind.Only Main)), takes p.next t.backup (after t.number))
+met_of t None (Some q) = Some (Some (difference t.number (kind.Only Backup)), takes t.main q.next (after t.number))
+met_of t None None = None
 
 -- The step
 
 -- the answer of one number, or of the numbers after it where both are the same
-unfoldable pub on_met : (Takes → Step) → Met → Step
-on_met again (met.Same u) = again u
-on_met again (met.Differs d u) = step.Differs d u
-on_met again met.Over = step.Over
+unfoldable pub on_met : (Takes → Option (Difference × Takes)) → Option (Option Difference × Takes) → Option (Difference × Takes)
+on_met again (Some (None, u)) = again u
+on_met again (Some (Some d, u)) = Some (d, u)
+on_met again None = None
 
 -- the next difference of two files, by the frames that are left of each
-unfoldable pub next_of : List ℕ → List ℕ → Takes → List FrameElement → List FrameElement → Step
-next_of s r t [] ys = on_met (λ u. step.Over) (met_of t side.Over (side_of r ys))
-next_of s r t (x ∷ xs) [] = on_met (λ u. step.Over) (met_of t (side.Frame (stop_of s x)) side.Over)
-next_of s r t (x ∷ xs) (y ∷ ys) = on_met (λ u. next_of s r u xs ys) (met_of t (side.Frame (stop_of s x)) (side.Frame (stop_of r y)))
+unfoldable pub next_of : List ℕ → List ℕ → Takes → List FrameElement → List FrameElement → Option (Difference × Takes)
+next_of s r t [] ys = on_met (λ u. None) (met_of t None (side_of r ys))
+next_of s r t (x ∷ xs) [] = on_met (λ u. None) (met_of t (Some (stop_of s x)) None)
+next_of s r t (x ∷ xs) (y ∷ ys) = on_met (λ u. next_of s r u xs ys) (met_of t (Some (stop_of s x)) (Some (stop_of r y)))
 
-abbrev pub next_from : List ℕ → ℕ → List ℕ → ℕ → Takes → Step
+abbrev pub next_from : List ℕ → ℕ → List ℕ → ℕ → Takes → Option (Difference × Takes)
 next_from s e r f t = next_of s r t (left_of s e t.main t.number) (left_of r f t.backup t.number)
 
 -- the first file is refused before the second
-unfoldable pub takes_step : List ℕ → ℕ → List ℕ → ℕ → Takes → Step
+unfoldable pub takes_step : List ℕ → ℕ → List ℕ → ℕ → Takes → Result (Option (Difference × Takes)) EndTooLarge
 takes_step s e r f t =
-    cond (nat_lt (length s) e) step.First
-    (cond (nat_lt (length r) f) step.Second
-    (next_from s e r f t))
+    cond (nat_lt (length s) e) (Err First)
+    (cond (nat_lt (length r) f) (Err Second)
+    (Ok (next_from s e r f t)))

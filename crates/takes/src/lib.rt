@@ -3,159 +3,137 @@
 #![tactic(auto)]
 
 ghost use Rattle.std.specs.Prelude.{◌≡◌, ◌≤◌, length};
-ghost use Rattle.takes.specs.Takes.{side_of, left_of, met_of, takes_step};
+ghost use Rattle.takes.specs.Takes.{side_of, left_of, differing, met_of, takes_step};
 
 use frame_walks::{Arri, FrameStep, Place};
-use take_frames::{Compared, Kind, Recorded, Recorder};
+use take_frames::{Kind, Recorded, Recorder};
 
-#[derive(Clone, Copy)]
+#[derive(Clone, Copy, Debug, PartialEq)]
 pub struct Difference {
     pub number: u64,
     pub kind: Kind,
 }
 
 // A recorder's next frame, and where its walk goes on.
-#[derive(Clone, Copy)]
+#[derive(Clone, Copy, Debug, PartialEq)]
 pub struct Stop {
     pub recorded: Recorded,
     pub next: usize,
 }
 
-#[derive(Clone, Copy)]
-pub enum Side {
-    Frame(Stop),
-    Over,
-}
-
 // Where both walks stand, and the number of the next frame.
-#[derive(Clone, Copy)]
+#[derive(Clone, Copy, Debug, PartialEq, Eq)]
 pub struct Takes {
     pub main: usize,
     pub backup: usize,
     pub number: u64,
 }
 
-// What comes of one number.
-#[derive(Clone, Copy)]
-pub enum Met {
-    Same(Takes),
-    Differs(Difference, Takes),
-    Over,
-}
-
-// What a step finds.
-#[derive(Clone, Copy)]
-pub enum Step {
-    Differs(Difference, Takes),
-    Over,
-    // The first file's end is larger than its buffer.
+// A file's end is larger than its buffer.
+#[derive(Clone, Copy, Debug, PartialEq, Eq)]
+pub enum EndTooLarge {
     First,
-    // The second file's is.
     Second,
 }
 
 // The next frame of a recorder's file from a place on. Nothing here goes by the bytes that were passed, so that the place
 // serves for where walking last went on.
-fn next_of(s: &[u8], end: usize, at: usize, number: u64) -> Side
+fn next_of(s: &[u8], end: usize, at: usize, number: u64) -> Option<Stop>
     requires { end ≤ length s.now }
     ensures { result ≡ side_of s.now (left_of s.now end at number) }
 {
-    let r = Arri {
+    let walk = Arri {
         place: Place {
             at,
             since: at,
             number,
         },
-    }
-    .step(s, end);
-    match r {
-        FrameStep::Frame(f, _, c) => {
-            let values = arri_values::values_of(s, f);
-            Side::Frame(Stop {
-                recorded: Recorded {
-                    overlong: f.overlong,
-                    values,
-                },
-                next: c.at,
-            })
-        }
+    };
+    match walk.step(s, end) {
+        Ok(FrameStep::Frame(f, _, c)) => Some(Stop {
+            recorded: Recorded {
+                overlong: f.overlong,
+                values: arri_values::values_of(s, f),
+            },
+            next: c.at,
+        }),
         // Never: ARRI's walk gives nothing beside frames.
-        FrameStep::Given(_, _, _) => Side::Over,
-        FrameStep::Rests(_) => Side::Over,
+        Ok(FrameStep::Given(_, _, _)) => None,
+        Ok(FrameStep::Rests(_)) => None,
         // Never: the end lies within the buffer.
-        FrameStep::Refused => Side::Over,
+        Err(_) => None,
     }
 }
 
-// What comes of the two sides of a number.
-pub fn meet(t: Takes, x: Side, y: Side) -> Met
+// What differs at a number, if anything does.
+fn differing(number: u64, kind: Option<Kind>) -> Option<Difference>
+    ensures { result ≡ differing number kind }
+{
+    Some(Difference {
+        number,
+        kind: kind?,
+    })
+}
+
+// What comes of the two sides of a number: what differs, and where both walks go on. Nothing comes where both are over.
+pub fn meet(t: Takes, x: Option<Stop>, y: Option<Stop>) -> Option<(Option<Difference>, Takes)>
     ensures { result ≡ met_of t x y }
 {
-    let number = t.number;
-    let after = std::num::wrapping_add_u64(number, 1);
-    match x {
-        Side::Frame(p) => match y {
-            Side::Frame(q) => {
-                let u = Takes {
-                    main: p.next,
-                    backup: q.next,
-                    number: after,
-                };
-                let c = take_frames::compare(p.recorded, q.recorded);
-                match c {
-                    Compared::Same => Met::Same(u),
-                    Compared::Differs(kind) => Met::Differs(Difference { number, kind }, u),
-                }
-            }
-            Side::Over => Met::Differs(
-                Difference {
-                    number,
-                    kind: Kind::Only(Recorder::Main),
-                },
-                Takes {
-                    main: p.next,
-                    backup: t.backup,
-                    number: after,
-                },
-            ),
-        },
-        Side::Over => match y {
-            Side::Frame(q) => Met::Differs(
-                Difference {
-                    number,
-                    kind: Kind::Only(Recorder::Backup),
-                },
-                Takes {
-                    main: t.main,
-                    backup: q.next,
-                    number: after,
-                },
-            ),
-            Side::Over => Met::Over,
-        },
+    let number = t.number.wrapping_add(1);
+    match (x, y) {
+        (Some(p), Some(q)) => Some((
+            differing(t.number, take_frames::compare(p.recorded, q.recorded)),
+            Takes {
+                main: p.next,
+                backup: q.next,
+                number,
+            },
+        )),
+        (Some(p), None) => Some((
+            differing(t.number, Some(Kind::Only(Recorder::Main))),
+            Takes {
+                main: p.next,
+                number,
+                ..t
+            },
+        )),
+        (None, Some(q)) => Some((
+            differing(t.number, Some(Kind::Only(Recorder::Backup))),
+            Takes {
+                backup: q.next,
+                number,
+                ..t
+            },
+        )),
+        (None, None) => None,
     }
 }
 
 impl Takes {
-    // The next difference of the two files before their ends, with the moved cursor.
-    pub fn step(self, main: &[u8], main_end: usize, backup: &[u8], backup_end: usize) -> Step
+    // The next difference of the two files before their ends, with the moved cursor; none where both are over.
+    pub fn step(
+        self,
+        main: &[u8],
+        main_end: usize,
+        backup: &[u8],
+        backup_end: usize,
+    ) -> Result<Option<(Difference, Takes)>, EndTooLarge>
         ensures { result ≡ takes_step main.now main_end backup.now backup_end self }
     {
         if main.len() < main_end {
-            return Step::First;
+            return Err(EndTooLarge::First);
         }
         if backup.len() < backup_end {
-            return Step::Second;
+            return Err(EndTooLarge::Second);
         }
         let mut t = self;
         loop {
             let x = next_of(main, main_end, t.main, t.number);
             let y = next_of(backup, backup_end, t.backup, t.number);
-            let m = meet(t, x, y);
-            match m {
-                Met::Differs(d, u) => return Step::Differs(d, u),
-                Met::Over => return Step::Over,
-                Met::Same(u) => t = u,
+            match meet(t, x, y) {
+                Some((Some(d), u)) => return Ok(Some((d, u))),
+                Some((None, u)) => t = u,
+                None => return Ok(None),
             }
         }
     }

@@ -13,38 +13,37 @@ use Rattle.take_frames.specs.declared.Recorder.TheVariants.{Main, Backup}
 use Rattle.take_frames.specs.declared.Kind.{Kind}
 use Rattle.take_frames.specs.declared.Kind.TheVariants as kind
 use Rattle.takes.specs.declared.Difference.{Difference}
-use Rattle.take_figures.specs.declared.Form.{Form}
-use Rattle.take_figures.specs.declared.Form.TheVariants as form
 use Rattle.takes_text.specs.Names.{focal_length_name, focus_distance_name, t_stop_name, exposure_time_name, shutter_angle_name, tilt_roll_name, exposure_index_name, white_balance_name, nd_density_name, effective_focal_length_name, white_balance_factors_name, focus_lds_name, focus_motor_name, zoom_lds_name, zoom_motor_name, iris_lds_name, iris_motor_name, tint, sensor_rate_name, values_name, over_long_name, only_name}
 use Rattle.take_figures.specs.Figures.{figure_text}
 use Rattle.take_figures.proofs.Sizes.{either, figure_length}
+use Rattle.std.specs.Prelude.{Option}
 use Rattle.takes_text.specs.Lines.{has, line_of, field_line, first_lines, last_lines, yes_of, sided_line, kind_lines, difference_lines}
 
 line-length : (n : ℕ) (name x y : List ℕ) → length x ≤ 50 → length y ≤ 50 → length (line_of n name x y) ≤ 124 + length name
 line-length n name x y h k = simp length-append (omega (arith, length-decimal n))
 
-field-length : (n m k : ℕ) (name : List ℕ) (f : Form) (x y : List Said) → length (field_line n m k name f x y) ≤ 124 + length name
+field-length : (n m k : ℕ) (name : List ℕ) (x y : List (Option Said)) → length (field_line n m k name x y) ≤ 124 + length name
 unfolding field_line
-field-length n m k name f x y =
-    either (has m k) (line_of n name (figure_text f _) (figure_text f _)) [] (124 + length name)
-    (line-length n name (figure_text f _) (figure_text f _) (figure_length f _) (figure_length f _)) (omega arith)
+field-length n m k name x y =
+    either (has m k) (line_of n name (figure_text _) (figure_text _)) [] (124 + length name)
+    (line-length n name (figure_text _) (figure_text _) (figure_length _) (figure_length _)) (omega arith)
 
 side_length : (n : ℕ) (name : List ℕ) (r : Recorder) → length (sided_line n name r) ≤ 28 + length name
 unfolding yes_of
 side_length n name Main = simp length-append (omega (arith, length-decimal n))
 side_length n name Backup = simp length-append (omega (arith, length-decimal n))
 
-first-length : (n m : ℕ) (x y : List Said) → length (first_lines n m x y) ≤ 1500
+first-length : (n m : ℕ) (x y : List (Option Said)) → length (first_lines n m x y) ≤ 1500
 unfolding first_lines
 first-length n m x y =
     simp length-append
-    (omega (arith, field-length n m 0 focal_length_name form.Single x y, field-length n m 1 focus_distance_name form.Distance x y, field-length n m 2 t_stop_name form.TStop x y, field-length n m 3 exposure_time_name form.Double x y, field-length n m 4 shutter_angle_name form.Single x y, field-length n m 5 tilt_roll_name form.TiltRoll x y, field-length n m 6 exposure_index_name form.Whole x y, field-length n m 7 white_balance_name form.Whole x y, field-length n m 8 nd_density_name form.Double x y, field-length n m 9 effective_focal_length_name form.Double x y))
+    (omega (arith, field-length n m 0 focal_length_name x y, field-length n m 1 focus_distance_name x y, field-length n m 2 t_stop_name x y, field-length n m 3 exposure_time_name x y, field-length n m 4 shutter_angle_name x y, field-length n m 5 tilt_roll_name x y, field-length n m 6 exposure_index_name x y, field-length n m 7 white_balance_name x y, field-length n m 8 nd_density_name x y, field-length n m 9 effective_focal_length_name x y))
 
-last-length : (n m : ℕ) (x y : List Said) → length (last_lines n m x y) ≤ 1500
+last-length : (n m : ℕ) (x y : List (Option Said)) → length (last_lines n m x y) ≤ 1500
 unfolding last_lines
 last-length n m x y =
     simp length-append
-    (omega (arith, field-length n m 10 white_balance_factors_name form.Factors x y, field-length n m 11 focus_lds_name form.Whole x y, field-length n m 12 focus_motor_name form.Whole x y, field-length n m 13 zoom_lds_name form.Whole x y, field-length n m 14 zoom_motor_name form.Whole x y, field-length n m 15 iris_lds_name form.Whole x y, field-length n m 16 iris_motor_name form.Whole x y, field-length n m 17 tint form.Double x y, field-length n m 18 sensor_rate_name form.Double x y))
+    (omega (arith, field-length n m 10 white_balance_factors_name x y, field-length n m 11 focus_lds_name x y, field-length n m 12 focus_motor_name x y, field-length n m 13 zoom_lds_name x y, field-length n m 14 zoom_motor_name x y, field-length n m 15 iris_lds_name x y, field-length n m 16 iris_motor_name x y, field-length n m 17 tint x y, field-length n m 18 sensor_rate_name x y))
 
 fits : (n : ℕ) (k : Kind) → length (kind_lines n k) ≤ 4096
 unfolding kind_lines

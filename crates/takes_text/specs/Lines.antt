@@ -1,16 +1,14 @@
 -- A difference as lines of text: docs/RULES.md, "L14. Two recordings of one take".
-use Rattle.std.specs.Prelude.{ℕ, ◌/◌, ◌%◌, ◌^◌, List, [], ◌∷◌, ◌++◌, Bool, cond, eqb, get_or}
+use Rattle.std.specs.Prelude.{ℕ, ◌/◌, ◌%◌, ◌^◌, List, [], ◌∷◌, ◌++◌, Bool, cond, eqb, get_or, Option, None}
 use Rattle.text.specs.Write.{decimal_of}
 use Rattle.frame_differences.specs.declared.Said.{Said}
-use Rattle.frame_differences.specs.Said.{nothing, said_of}
+use Rattle.frame_differences.specs.Said.{said_of}
 use Rattle.take_frames.specs.declared.Recorder.{Recorder}
 use Rattle.take_frames.specs.declared.Recorder.TheVariants.{Main, Backup}
 use Rattle.take_frames.specs.declared.Both.{Both}
 use Rattle.take_frames.specs.declared.Kind.{Kind}
 use Rattle.take_frames.specs.declared.Kind.TheVariants as kind
 use Rattle.takes.specs.declared.Difference.{Difference}
-use Rattle.take_figures.specs.declared.Form.{Form}
-use Rattle.take_figures.specs.declared.Form.TheVariants as form
 use Rattle.takes_text.specs.Names.{focal_length_name, focus_distance_name, t_stop_name, exposure_time_name, shutter_angle_name, tilt_roll_name, exposure_index_name, white_balance_name, nd_density_name, effective_focal_length_name, white_balance_factors_name, focus_lds_name, focus_motor_name, zoom_lds_name, zoom_motor_name, iris_lds_name, iris_motor_name, tint, sensor_rate_name, values_name, over_long_name, only_name}
 use Rattle.take_figures.specs.Figures.{figure_text}
 
@@ -32,34 +30,34 @@ abbrev pub line_of : ℕ → List ℕ → List ℕ → List ℕ → List ℕ
 line_of n name main backup = head_of n name ++ main ++ space ++ backup ++ newline
 
 -- field k's line, where it differs
-unfoldable pub field_line : ℕ → ℕ → ℕ → List ℕ → Form → List Said → List Said → List ℕ
-field_line n m k name f x y = cond (has m k) (line_of n name (figure_text f (get_or x k nothing)) (figure_text f (get_or y k nothing))) []
+unfoldable pub field_line : ℕ → ℕ → ℕ → List ℕ → List (Option Said) → List (Option Said) → List ℕ
+field_line n m k name x y = cond (has m k) (line_of n name (figure_text (get_or x k None)) (figure_text (get_or y k None))) []
 
--- the fields by their names and forms, in the order of the header
-unfoldable pub first_lines : ℕ → ℕ → List Said → List Said → List ℕ
+-- the fields by their names, in the order of the header
+unfoldable pub first_lines : ℕ → ℕ → List (Option Said) → List (Option Said) → List ℕ
 first_lines n m x y =
-    field_line n m 0 focal_length_name form.Single x y
-    ++ field_line n m 1 focus_distance_name form.Distance x y
-    ++ field_line n m 2 t_stop_name form.TStop x y
-    ++ field_line n m 3 exposure_time_name form.Double x y
-    ++ field_line n m 4 shutter_angle_name form.Single x y
-    ++ field_line n m 5 tilt_roll_name form.TiltRoll x y
-    ++ field_line n m 6 exposure_index_name form.Whole x y
-    ++ field_line n m 7 white_balance_name form.Whole x y
-    ++ field_line n m 8 nd_density_name form.Double x y
-    ++ field_line n m 9 effective_focal_length_name form.Double x y
+    field_line n m 0 focal_length_name x y
+    ++ field_line n m 1 focus_distance_name x y
+    ++ field_line n m 2 t_stop_name x y
+    ++ field_line n m 3 exposure_time_name x y
+    ++ field_line n m 4 shutter_angle_name x y
+    ++ field_line n m 5 tilt_roll_name x y
+    ++ field_line n m 6 exposure_index_name x y
+    ++ field_line n m 7 white_balance_name x y
+    ++ field_line n m 8 nd_density_name x y
+    ++ field_line n m 9 effective_focal_length_name x y
 
-unfoldable pub last_lines : ℕ → ℕ → List Said → List Said → List ℕ
+unfoldable pub last_lines : ℕ → ℕ → List (Option Said) → List (Option Said) → List ℕ
 last_lines n m x y =
-    field_line n m 10 white_balance_factors_name form.Factors x y
-    ++ field_line n m 11 focus_lds_name form.Whole x y
-    ++ field_line n m 12 focus_motor_name form.Whole x y
-    ++ field_line n m 13 zoom_lds_name form.Whole x y
-    ++ field_line n m 14 zoom_motor_name form.Whole x y
-    ++ field_line n m 15 iris_lds_name form.Whole x y
-    ++ field_line n m 16 iris_motor_name form.Whole x y
-    ++ field_line n m 17 tint form.Double x y
-    ++ field_line n m 18 sensor_rate_name form.Double x y
+    field_line n m 10 white_balance_factors_name x y
+    ++ field_line n m 11 focus_lds_name x y
+    ++ field_line n m 12 focus_motor_name x y
+    ++ field_line n m 13 zoom_lds_name x y
+    ++ field_line n m 14 zoom_motor_name x y
+    ++ field_line n m 15 iris_lds_name x y
+    ++ field_line n m 16 iris_motor_name x y
+    ++ field_line n m 17 tint x y
+    ++ field_line n m 18 sensor_rate_name x y
 
 abbrev pub field_lines : ℕ → Both → List ℕ
 field_lines n b = first_lines n b.fields (said_of b.main) (said_of b.backup) ++ last_lines n b.fields (said_of b.main) (said_of b.backup)

@@ -9,7 +9,7 @@ ghost use Rattle.take_figures.specs.Figures.{figure_text};
 ghost use Rattle.takes_text.specs.Lines.{has, head_of, line_of, field_line, first_lines, last_lines, field_lines, yes_of, sided_line, difference_lines};
 
 use frame_differences::{Said, row};
-use take_figures::{Form, put_figure};
+use take_figures::put_figure;
 use take_frames::{Both, Kind, Recorder};
 use takes::Difference;
 use text::{put_all, put_byte, put_decimal};
@@ -38,16 +38,15 @@ fn put_line(
     at: usize,
     number: u64,
     name: &[u8],
-    form: Form,
-    x: Said,
-    y: Said,
+    x: Option<Said>,
+    y: Option<Said>,
 ) -> usize
-    ensures { Put (line_of number name.now (figure_text form x) (figure_text form y)) out.old at out.new result }
+    ensures { Put (line_of number name.now (figure_text x) (figure_text y)) out.old at out.new result }
 {
     let a = put_head(out, at, number, name);
-    let b = put_figure(out, a, form, x);
+    let b = put_figure(out, a, x);
     let c = put_byte(out, b, b' ');
-    let d = put_figure(out, c, form, y);
+    let d = put_figure(out, c, y);
     put_byte(out, d, b'\n')
 }
 
@@ -59,83 +58,71 @@ fn put_field(
     fields: u32,
     k: usize,
     name: &[u8],
-    form: Form,
-    x: [Said; 19],
-    y: [Said; 19],
+    x: [Option<Said>; 19],
+    y: [Option<Said>; 19],
 ) -> usize
     requires { k < 19 }
-    ensures { Put (field_line number fields k name.now form x y) out.old at out.new result }
+    ensures { Put (field_line number fields k name.now x y) out.old at out.new result }
 {
     if has(fields, k as u32) {
-        let main = x[k];
-        let backup = y[k];
-        return put_line(out, at, number, name, form, main, backup);
+        return put_line(out, at, number, name, x[k], y[k]);
     }
     at
 }
 
 // Puts the lines of the first ten fields.
-fn put_first(out: &mut [u8], at: usize, n: u64, m: u32, x: [Said; 19], y: [Said; 19]) -> usize
+fn put_first(
+    out: &mut [u8],
+    at: usize,
+    n: u64,
+    m: u32,
+    x: [Option<Said>; 19],
+    y: [Option<Said>; 19],
+) -> usize
     ensures { Put (first_lines n m x y) out.old at out.new result }
 {
-    let a = put_field(out, at, n, m, 0, b"focal_length", Form::Single, x, y);
-    let b = put_field(out, a, n, m, 1, b"focus_distance", Form::Distance, x, y);
-    let c = put_field(out, b, n, m, 2, b"t_stop", Form::TStop, x, y);
-    let d = put_field(out, c, n, m, 3, b"exposure_time", Form::Double, x, y);
-    let e = put_field(out, d, n, m, 4, b"shutter_angle", Form::Single, x, y);
-    let f = put_field(out, e, n, m, 5, b"tilt_roll", Form::TiltRoll, x, y);
-    let g = put_field(out, f, n, m, 6, b"exposure_index", Form::Whole, x, y);
-    let h = put_field(out, g, n, m, 7, b"white_balance", Form::Whole, x, y);
-    let i = put_field(out, h, n, m, 8, b"nd_density", Form::Double, x, y);
-    put_field(
-        out,
-        i,
-        n,
-        m,
-        9,
-        b"effective_focal_length",
-        Form::Double,
-        x,
-        y,
-    )
+    let a = put_field(out, at, n, m, 0, b"focal_length", x, y);
+    let b = put_field(out, a, n, m, 1, b"focus_distance", x, y);
+    let c = put_field(out, b, n, m, 2, b"t_stop", x, y);
+    let d = put_field(out, c, n, m, 3, b"exposure_time", x, y);
+    let e = put_field(out, d, n, m, 4, b"shutter_angle", x, y);
+    let f = put_field(out, e, n, m, 5, b"tilt_roll", x, y);
+    let g = put_field(out, f, n, m, 6, b"exposure_index", x, y);
+    let h = put_field(out, g, n, m, 7, b"white_balance", x, y);
+    let i = put_field(out, h, n, m, 8, b"nd_density", x, y);
+    put_field(out, i, n, m, 9, b"effective_focal_length", x, y)
 }
 
 // Puts the lines of the other nine.
-fn put_last(out: &mut [u8], at: usize, n: u64, m: u32, x: [Said; 19], y: [Said; 19]) -> usize
+fn put_last(
+    out: &mut [u8],
+    at: usize,
+    n: u64,
+    m: u32,
+    x: [Option<Said>; 19],
+    y: [Option<Said>; 19],
+) -> usize
     ensures { Put (last_lines n m x y) out.old at out.new result }
 {
-    let a = put_field(
-        out,
-        at,
-        n,
-        m,
-        10,
-        b"white_balance_factors",
-        Form::Factors,
-        x,
-        y,
-    );
-    let b = put_field(out, a, n, m, 11, b"focus_lds", Form::Whole, x, y);
-    let c = put_field(out, b, n, m, 12, b"focus_motor", Form::Whole, x, y);
-    let d = put_field(out, c, n, m, 13, b"zoom_lds", Form::Whole, x, y);
-    let e = put_field(out, d, n, m, 14, b"zoom_motor", Form::Whole, x, y);
-    let f = put_field(out, e, n, m, 15, b"iris_lds", Form::Whole, x, y);
-    let g = put_field(out, f, n, m, 16, b"iris_motor", Form::Whole, x, y);
-    let h = put_field(out, g, n, m, 17, b"tint", Form::Double, x, y);
-    put_field(out, h, n, m, 18, b"sensor_rate", Form::Double, x, y)
+    let a = put_field(out, at, n, m, 10, b"white_balance_factors", x, y);
+    let b = put_field(out, a, n, m, 11, b"focus_lds", x, y);
+    let c = put_field(out, b, n, m, 12, b"focus_motor", x, y);
+    let d = put_field(out, c, n, m, 13, b"zoom_lds", x, y);
+    let e = put_field(out, d, n, m, 14, b"zoom_motor", x, y);
+    let f = put_field(out, e, n, m, 15, b"iris_lds", x, y);
+    let g = put_field(out, f, n, m, 16, b"iris_motor", x, y);
+    let h = put_field(out, g, n, m, 17, b"tint", x, y);
+    put_field(out, h, n, m, 18, b"sensor_rate", x, y)
 }
 
 // Puts a line for each field that differs.
 fn put_fields(out: &mut [u8], at: usize, number: u64, b: Both) -> usize
     ensures { Put (field_lines number b) out.old at out.new result }
 {
-    let fields = b.fields;
-    let main = b.main;
-    let backup = b.backup;
-    let x = row(main);
-    let y = row(backup);
-    let a = put_first(out, at, number, fields, x, y);
-    put_last(out, a, number, fields, x, y)
+    let x = row(b.main);
+    let y = row(b.backup);
+    let a = put_first(out, at, number, b.fields, x, y);
+    put_last(out, a, number, b.fields, x, y)
 }
 
 // Puts which side has something.
@@ -161,8 +148,7 @@ pub fn put_difference(out: &mut [u8], at: usize, d: Difference) -> usize
     ensures { Put (difference_lines d) out.old at out.new result }
 {
     let n = d.number;
-    let k = d.kind;
-    match k {
+    match d.kind {
         Kind::Fields(b) => put_fields(out, at, n, b),
         Kind::Values(r) => put_sided(out, at, n, b"values", r),
         Kind::Overlong(r) => put_sided(out, at, n, b"over-long", r),

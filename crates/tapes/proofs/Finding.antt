@@ -1,9 +1,8 @@
 -- What came of a frame's element is all that is needed of it, or too little. Assumes nothing.
-use Rattle.std.proofs.Common.{◌≡◌, ℕ, true, false, List, take, sym, ◌∙◌, eq-eqb, ne_eqb}
+use Rattle.std.proofs.Common.{Some, ◌≡◌, ℕ, true, false, List, take, sym, ◌∙◌, eq-eqb, ne_eqb}
 use Rattle.io.specs.Counts.{IsPrefixLen}
 use Rattle.frame_walks.specs.declared.FrameElement.{FrameElement}
 use Rattle.take_frames.specs.declared.Recorded.{Recorded}
-use Rattle.takes.specs.declared.Side.TheVariants as side
 use Rattle.tapes.specs.declared.Tape.{Tape}
 use Rattle.tapes.specs.declared.Found.{Found}
 use Rattle.tapes.specs.Frames.{read_as}
@@ -20,6 +19,6 @@ pub came :
     k ≡ n →
     recorded ≡ read_as f t.walk.state.label (take k xs) →
     next ≡ place_of t.walk.state →
-    ReadBy t f (record { tape = t; side = side.Frame (record { recorded = recorded; next = next }); failed = false })
+    ReadBy t f (record { tape = t; side = Some (record { recorded = recorded; next = next }); failed = false })
 unfolding frame_by
 came t f recorded next k n xs c needed all is place = (take k xs, rw (is, place, eq-eqb _ _ (sym c.1 ∙ all ∙ needed)))

@@ -1,12 +1,11 @@
 -- A recorder's file as it is read: docs/RULES.md, "L14. Two recordings of one take". What the system answers stands for itself: a
 -- contract says what is made of it.
-use Rattle.std.specs.Prelude.{◌≡◌, ℕ, ◌+◌, ◌%◌, ◌^◌, min, Bool, true, false, cond, Option, List, length, ◌==◌}
+use Rattle.std.specs.Prelude.{◌≡◌, ℕ, ◌+◌, ◌%◌, ◌^◌, min, Bool, true, false, cond, Option, Some, None, List, length, ◌==◌}
 use Rattle.std.specs.declared.fs.File.{File}
 use Rattle.fed_states.specs.declared.State.{State}
 use Rattle.frame_walks.specs.declared.Camera.TheVariants as camera
 use Rattle.frame_walks.specs.declared.FrameElement.{FrameElement}
 use Rattle.fed_frames.specs.Frames.{opened_frames}
-use Rattle.takes.specs.declared.Side.TheVariants as side
 use Rattle.tapes.specs.declared.Stage.{Stage}
 use Rattle.tapes.specs.declared.Stage.TheVariants as stage
 use Rattle.tapes.specs.declared.Tape.{Tape}
@@ -28,7 +27,7 @@ needed_of f = cond f.overlong 0 (min f.element.len 8192)
 -- Found at a number
 
 abbrev pub no_frame : Tape → Bool → Found
-no_frame t failed = record { tape = t; side = side.Over; failed = failed }
+no_frame t failed = record { tape = t; side = None; failed = failed }
 
 -- a frame, by what came of its element; less than is needed is trouble
 unfoldable pub frame_by : Tape → FrameElement → List ℕ → Found
@@ -36,7 +35,7 @@ frame_by t f element =
     cond (length element == needed_of f)
     (record {
       tape = t;
-      side = side.Frame (record { recorded = read_as f t.walk.state.label element; next = place_of t.walk.state });
+      side = Some (record { recorded = read_as f t.walk.state.label element; next = place_of t.walk.state });
       failed = false;
     })
     (no_frame t true)

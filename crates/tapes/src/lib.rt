@@ -8,7 +8,6 @@ ghost use Rattle.io.specs.Counts.{IsPrefixLen};
 ghost use Rattle.tapes.specs.Frames.{read_as};
 ghost use Rattle.tapes.specs.Tapes.{unread_of, place_of, needed_of, no_frame, ReadBy, Finds};
 
-use arri_values::Values;
 use fed_frames::{FrameAnswer, FrameState};
 use fed_states::State;
 use frame_walks::{Camera, FrameElement};
@@ -17,7 +16,7 @@ use std::io::{Error, Print, Stderr};
 use std::os::unix::fs::FileExt;
 use streams::fail;
 use take_frames::Recorded;
-use takes::{Side, Stop};
+use takes::Stop;
 
 // How far the reading of a file has come.
 #[derive(Clone, Copy)]
@@ -141,29 +140,28 @@ fn fill(err: Stderr, t: Tape, buf: &mut [u8; 65536]) -> Tape {
 }
 
 // What a call's answer makes of a file.
-fn stage_of(err: Stderr, a: FrameAnswer) -> Stage {
+fn stage_of(a: FrameAnswer) -> Stage {
     match a {
         FrameAnswer::Frame(f, _) => Stage::Frame(f),
         FrameAnswer::Nothing => Stage::Goes,
         // Never: ARRI's walk gives nothing beside frames.
         FrameAnswer::Given(_, _) => Stage::Goes,
-        // Never: no more is fed than the file's bytes.
-        FrameAnswer::Refused(_) => {
-            let _ = err.write_all(b"a file's walk refuses its bytes\n");
-            Stage::Failed
-        }
     }
 }
 
 // Feeds the bytes that are in the room, from the i-th on.
 fn feed(err: Stderr, t: Tape, buf: &[u8], i: usize) -> Tape {
-    let f = fed_frames::feed(t.walk, parts::part(buf, i, t.count.saturating_sub(i)));
-    let walk = f.walk;
-    let a = f.answer;
-    let stage = stage_of(err, a);
+    let walk = t.walk;
     let from = t.from;
     let count = t.count;
-    moved(t, walk, from, count, stage)
+    match fed_frames::feed(walk, parts::part(buf, i, count.saturating_sub(i))) {
+        Ok(f) => moved(t, f.walk, from, count, stage_of(f.answer)),
+        // Never: no more is fed than the file's bytes.
+        Err(_) => {
+            let _ = err.write_all(b"a file's walk refuses its bytes\n");
+            moved(t, walk, from, count, Stage::Failed)
+        }
+    }
 }
 
 // Feeds what is in the room of the bytes that come next, or reads them.
@@ -197,7 +195,7 @@ fn recorded(f: FrameElement, label: &[u8; 16], element: &[u8]) -> Recorded
     if f.overlong {
         return Recorded {
             overlong: true,
-            values: Values::Nothing,
+            values: None,
         };
     }
     Recorded {
@@ -210,7 +208,7 @@ fn recorded(f: FrameElement, label: &[u8; 16], element: &[u8]) -> Recorded
 #[derive(Drop)]
 pub struct Found {
     pub tape: Tape,
-    pub side: Side,
+    pub side: Option<Stop>,
     pub failed: bool,
 }
 
@@ -220,7 +218,7 @@ fn none(tape: Tape, failed: bool) -> Found
 {
     Found {
         tape,
-        side: Side::Over,
+        side: None,
         failed,
     }
 }
@@ -255,7 +253,7 @@ fn read(err: Stderr, t: Tape, f: FrameElement) -> Found
     let recorded = recorded(f, &label, &element[..have]);
     Found {
         tape: t,
-        side: Side::Frame(Stop {
+        side: Some(Stop {
             recorded,
             next: place(s),
         }),

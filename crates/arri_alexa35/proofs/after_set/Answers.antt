@@ -1,5 +1,4 @@
 -- `arri_alexa35::after_set` meets its contract. The loop's invariant: the items from the cursor on leave of the values so far what the whole set leaves.
-use Prim.Native.Nat.{◌-◌}
 use mathlib.Core.Bool.{true}
 use mathlib.Core.Path.{◌≡◌, refl, sym, ap, ap₂, ◌∙◌}
 use native.Mathlib.Omega.{arith}
@@ -14,26 +13,26 @@ use Rattle.arri_alexa35_values.specs.Values.{values_on}
 use Rattle.arri_alexa35.specs.Items.{in_set}
 use Rattle.arri_alexa35.proofs.Laws.{set-end, set_more}
 use Rattle.arri_alexa35.proofs.after_set.Goals as goal
-use Rattle.arri_alexa35.proofs.after_set.Goals.{In-Item}
+use Rattle.arri_alexa35.proofs.after_set.Goals.{In-Some}
 
 -- where a turn finds an item
-is_found : (k : goal.In-Item)
-    → item_step 16 true k.args.set.now k.loop-i.at
-    ≡ found (item 16 k.args.set.now k.in-Item.i) k.in-Item.next.at
-is_found k = run-item _ _ _ k.step-step.ensures _ _ k.in-Item.is
+is_found : (k : goal.In-Some)
+    → item_step 16 true k.args.set.now k.loop-i.items.at
+    ≡ found (item 16 k.args.set.now k.in-Some.i) k.in-Some.next.at
+is_found k = run-item _ _ _ k.step.ensures _ _ k.in-Some.is
 
 pub loop-i-init : goal.loop-i-init
 unfolding in_set run_of
 loop-i-init c = refl
 
-pub returns-in_default : goal.returns-in_default
-returns-in_default c =
-    sym (set-end values_on _ _ _ (run_end _ _ _ c.step-step.ensures c.in_default.is)) ∙ c.loop-i.invariant
+pub returns : goal.returns
+returns c =
+    sym (set-end values_on _ _ _ (run_end _ _ _ c.step.ensures c.in_default.is)) ∙ c.loop-i.invariant
 
 pub loop-i-smaller : goal.loop-i-smaller
-loop-i-smaller c = omega (arith, item-fits 16 true _ _ _ _ (is_found (goal.at.loop-i-smaller c).In-Item))
+loop-i-smaller c = omega (arith, item-fits 16 true _ _ _ _ (is_found (goal.at.loop-i-smaller c).In-Some))
 
 pub loop-i-preserved : goal.loop-i-preserved
 loop-i-preserved c =
     let item : c.values_on-k.result ≡ values_on c.loop-i.k _ = c.values_on-k.ensures ∙ ap (values_on c.loop-i.k) (ap₂ said (c.number_in.ensures ∙ ap number_in c.label.ensures) c.bytes.ensures) in
-    rw item (sym (set_more values_on _ _ _ _ _ (is_found (goal.at.loop-i-preserved c).In-Item)) ∙ c.loop-i.invariant)
+    rw item (sym (set_more values_on _ _ _ _ _ (is_found (goal.at.loop-i-preserved c).In-Some)) ∙ c.loop-i.invariant)

@@ -9,7 +9,7 @@ use Rattle.arri_alexa35.proofs.Laws.{set_from}
 use Rattle.arri_alexa35.proofs.after_set.Given as goal
 
 abbrev pub invariant-loop-i : goal.invariant-loop-i
-invariant-loop-i l = after values_on l.k (set_from l.set l.at) ≡ after values_on l.initial.k (in_set l.set)
+invariant-loop-i l = after values_on l.k (set_from l.set l.items.at) ≡ after values_on l.initial.k (in_set l.set)
 
 abbrev pub decreases-loop-i : goal.decreases-loop-i
-decreases-loop-i l = length l.set - l.at
+decreases-loop-i l = length l.set - l.items.at

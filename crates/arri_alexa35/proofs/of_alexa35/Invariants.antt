@@ -9,7 +9,7 @@ use Rattle.arri_alexa35.proofs.Laws.{sets_from}
 use Rattle.arri_alexa35.proofs.of_alexa35.Given as goal
 
 abbrev pub invariant-loop-i : goal.invariant-loop-i
-invariant-loop-i l = after values_on l.k (sets_from l.element l.at) ≡ after values_on none (said_in l.element)
+invariant-loop-i l = after values_on l.k (sets_from l.element l.sets.at) ≡ after values_on none (said_in l.element)
 
 abbrev pub decreases-loop-i : goal.decreases-loop-i
-decreases-loop-i l = length l.element - l.at
+decreases-loop-i l = length l.element - l.sets.at

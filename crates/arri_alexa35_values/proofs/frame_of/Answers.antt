@@ -4,4 +4,4 @@ use Rattle.arri_alexa35_values.proofs.frame_of.Goals as goal
 
 pub returns : goal.returns
 unfolding frame_of
-returns c = rw (c.tilt_roll_of.ensures, c.distance_or.ensures)
+returns c = rw (c.tilt_roll_of.ensures, c.or.ensures)

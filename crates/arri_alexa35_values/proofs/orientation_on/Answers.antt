@@ -6,11 +6,11 @@ use Rattle.arri_alexa35_values.proofs.orientation_on.Goals as goal
 
 pub returns-in-3075 : goal.returns-in-3075
 unfolding orientation_on erases
-returns-in-3075 c = rw (c.in-3075.is, c.float_in-tilt.ensures)
+returns-in-3075 c = rw (c.in-3075.is, c.float_in-k.ensures)
 
 pub returns-in-3076 : goal.returns-in-3076
 unfolding orientation_on erases
-returns-in-3076 c = rw (c.in-3076.is, c.float_in-roll.ensures)
+returns-in-3076 c = rw (c.in-3076.is, c.float_in-k-in-3076.ensures)
 
 pub returns-in_default : goal.returns-in_default
 unfolding orientation_on erases

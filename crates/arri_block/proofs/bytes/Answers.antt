@@ -2,10 +2,10 @@
 use Rattle.arri_block.specs.Block.{bytes_of}
 use Rattle.arri_block.proofs.bytes.Goals as goal
 
-pub returns-in-At : goal.returns-in-At
+pub returns-in-Some : goal.returns-in-Some
 unfolding bytes_of
-returns-in-At c = rw c.in-At.is c.part.ensures
+returns-in-Some c = rw c.in-Some.is c.part.ensures
 
-pub returns-in-Nothing : goal.returns-in-Nothing
+pub returns-in-None : goal.returns-in-None
 unfolding bytes_of
-returns-in-Nothing c = rw c.in-Nothing.is c.part-in-Nothing.ensures
+returns-in-None c = rw c.in-None.is c.part-in-None.ensures

@@ -8,7 +8,7 @@ use Rattle.arri_block.specs.Block.{first_of, in_element_item, block_of}
 use Rattle.arri_block.proofs.find.Given as goal
 
 abbrev pub invariant-loop-k : goal.invariant-loop-k
-invariant-loop-k l = first_of (in_element_item l.element) (items_from 1 false l.element l.at) ≡ block_of l.element
+invariant-loop-k l = first_of (in_element_item l.element) (items_from 1 false l.element l.items.at) ≡ block_of l.element
 
 abbrev pub decreases-loop-k : goal.decreases-loop-k
-decreases-loop-k l = length l.element - l.at
+decreases-loop-k l = length l.element - l.items.at

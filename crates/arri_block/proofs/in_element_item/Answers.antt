@@ -5,12 +5,12 @@ use native.Mathlib.Omega.{arith}
 use borrow.Author.Tests.{eq-eqb, ne_eqb}
 use lib.ListN.{take, drop}
 use Rattle.parts.specs.Number.{one_at}
-use Rattle.arri_block.specs.Block.{told, placed_at, in_run, in_element_item}
+use Rattle.arri_block.specs.Block.{placed_at, in_run, in_element_item}
 use Rattle.arri_block.proofs.Ending.{part_ends, run_ends}
 use Rattle.arri_block.proofs.in_element_item.Goals as goal
 use Rattle.arri_block.proofs.in_element_item.Goals.{After-in_run}
 
-is_block : (c : goal.After-in_run) → told c.in_run.result ≡ in_run (take c.args.k.len (drop c.args.k.value c.args.s.now))
+is_block : (c : goal.After-in_run) → c.in_run.result ≡ in_run (take c.args.k.len (drop c.args.k.value c.args.s.now))
 is_block c = rw add-sub_cancel_left at c.in_run.ensures
 
 pub placed_at-requires : goal.placed_at-requires

@@ -1,42 +1,41 @@
 -- `arri_block::in_run` meets its contract. The loop's invariant: the items from the cursor on give what the whole gives.
-use Prim.Native.Nat.{◌-◌}
 use mathlib.Core.Bool.{true}
-use mathlib.Core.Path.{◌≡◌, refl, sym, ap, ◌∙◌}
+use mathlib.Core.Path.{◌≡◌, refl, sym, ◌∙◌}
 use native.Mathlib.Omega.{arith}
 use Rattle.steps.specs.Told.{found}
 use Rattle.klv.specs.Item.{item}
 use Rattle.items.specs.Items.{item_step, run_of}
 use Rattle.items.proofs.From.{run-item, run_end}
 use Rattle.items.proofs.Laws.{item-fits}
-use Rattle.arri_block.specs.Block.{told, in_run}
+use Rattle.arri_block.specs.Block.{in_run}
 use Rattle.arri_block.proofs.Laws.{first-end, first_hit, first-passed}
 use Rattle.arri_block.proofs.in_run.Goals as goal
-use Rattle.arri_block.proofs.in_run.Goals.{In-Item}
+use Rattle.arri_block.proofs.in_run.Goals.{In-Some}
 
 -- where a turn finds an item
-is_found : (k : goal.In-Item)
-    → item_step 16 true k.args.s.now k.loop-k.at
-    ≡ found (item 16 k.args.s.now k.in-Item.k) k.in-Item.next.at
-is_found k = run-item _ _ _ k.step-step.ensures _ _ k.in-Item.is
+is_found : (k : goal.In-Some)
+    → item_step 16 true k.args.s.now k.loop-k.items.at
+    ≡ found (item 16 k.args.s.now k.in-Some.k) k.in-Some.next.at
+is_found k = run-item _ _ _ k.step.ensures _ _ k.in-Some.is
 
 pub loop-k-init : goal.loop-k-init
 unfolding in_run run_of
 loop-k-init c = refl
 
-pub returns-in_default : goal.returns-in_default
-returns-in_default c =
-    sym (first-end 16 true _ _ _ (run_end _ _ _ c.step-step.ensures c.in_default.is)) ∙ c.loop-k.invariant
+pub returns : goal.returns
+returns c =
+    sym (first-end 16 true _ _ _ (run_end _ _ _ c.step.ensures c.in_default.is)) ∙ c.loop-k.invariant
 
-pub in_run_item-b-requires : goal.in_run_item-b-requires
-in_run_item-b-requires c = omega (arith, item-fits 16 true _ _ _ _ (is_found (goal.at.in_run_item-b-requires c).In-Item))
+pub in_run_item-requires : goal.in_run_item-requires
+in_run_item-requires c = omega (arith, item-fits 16 true _ _ _ _ (is_found (goal.at.in_run_item-requires c).In-Some))
 
-pub returns-in-At : goal.returns-in-At
-returns-in-At c =
-    c.in_run_item-b.ensures ∙ sym (first_hit 16 true _ _ _ _ (is_found (goal.at.returns-in-At c).In-Item) _ _ (sym c.in_run_item-b.ensures ∙ ap told c.in-At.is)) ∙ c.loop-k.invariant
+pub returns-in-Some-in_run_item : goal.returns-in-Some-in_run_item
+returns-in-Some-in_run_item c =
+    sym c.in-Some-in_run_item.is ∙ c.in_run_item.ensures ∙ sym (first_hit 16 true _ _ _ _ (is_found (goal.at.returns-in-Some-in_run_item c).In-Some) _ _ (sym c.in_run_item.ensures ∙ c.in-Some-in_run_item.is)) ∙ c.loop-k.invariant
 
 pub loop-k-smaller : goal.loop-k-smaller
-loop-k-smaller c = omega (arith, item-fits 16 true _ _ _ _ (is_found (goal.at.loop-k-smaller c).In-Item))
+loop-k-smaller c = omega (arith, item-fits 16 true _ _ _ _ (is_found (goal.at.loop-k-smaller c).In-Some))
 
 pub loop-k-preserved : goal.loop-k-preserved
 loop-k-preserved c =
-    sym (first-passed 16 true _ _ _ _ (is_found (goal.at.loop-k-preserved c).In-Item) _ (sym c.in_run_item-b.ensures ∙ ap told c.in_default-b.is)) ∙ c.loop-k.invariant
+    sym (first-passed 16 true _ _ _ _ (is_found (goal.at.loop-k-preserved c).In-Some) _ (sym c.in_run_item.ensures ∙ c.in_default-in_run_item.is)) ∙ c.loop-k.invariant

@@ -8,7 +8,7 @@ use Rattle.arri_block.specs.Block.{first_of, in_run_item, in_run}
 use Rattle.arri_block.proofs.in_run.Given as goal
 
 abbrev pub invariant-loop-k : goal.invariant-loop-k
-invariant-loop-k l = first_of (in_run_item l.s) (items_from 16 true l.s l.at) ≡ in_run l.s
+invariant-loop-k l = first_of (in_run_item l.s) (items_from 16 true l.s l.items.at) ≡ in_run l.s
 
 abbrev pub decreases-loop-k : goal.decreases-loop-k
-decreases-loop-k l = length l.s - l.at
+decreases-loop-k l = length l.s - l.items.at

@@ -6,7 +6,7 @@ use native.Mathlib.Nat.{add-sub_cancel_left}
 use native.Mathlib.Omega.{arith}
 use lib.ListN.{take, drop}
 use Rattle.labels.specs.Label.{same_label, label_at}
-use Rattle.arri_block.specs.Block.{told, lens_unit_set, placed_at, in_set, in_run_item}
+use Rattle.arri_block.specs.Block.{lens_unit_set, placed_at, in_set, in_run_item}
 use Rattle.arri_block.proofs.Ending.{part_ends, set-ends}
 use Rattle.arri_block.proofs.in_run_item.Goals as goal
 use Rattle.arri_block.proofs.in_run_item.Goals.{After-agree_but, After-in_set}
@@ -14,7 +14,7 @@ use Rattle.arri_block.proofs.in_run_item.Goals.{After-agree_but, After-in_set}
 is_same : (c : goal.After-agree_but) → c.agree_but.result ≡ same_label (label_at c.args.s.now c.args.k.at) lens_unit_set
 is_same c = c.agree_but.ensures ∙ ap (λ (l : List ℕ). same_label l lens_unit_set) c.label.ensures
 
-is_block : (c : goal.After-in_set) → told c.in_set.result ≡ in_set (take c.args.k.len (drop c.args.k.value c.args.s.now))
+is_block : (c : goal.After-in_set) → c.in_set.result ≡ in_set (take c.args.k.len (drop c.args.k.value c.args.s.now))
 is_block c = rw add-sub_cancel_left at c.in_set.ensures
 
 pub placed_at-requires : goal.placed_at-requires

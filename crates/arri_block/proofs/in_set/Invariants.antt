@@ -8,7 +8,7 @@ use Rattle.arri_block.specs.Block.{in_items, in_set}
 use Rattle.arri_block.proofs.in_set.Given as goal
 
 abbrev pub invariant-loop-k : goal.invariant-loop-k
-invariant-loop-k l = in_items (items_from 2 false l.s l.at) ≡ in_set l.s
+invariant-loop-k l = in_items (items_from 2 false l.s l.items.at) ≡ in_set l.s
 
 abbrev pub decreases-loop-k : goal.decreases-loop-k
-decreases-loop-k l = length l.s - l.at
+decreases-loop-k l = length l.s - l.items.at

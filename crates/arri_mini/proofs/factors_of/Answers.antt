@@ -1,17 +1,17 @@
 -- `arri_mini::factors_of` meets its contract: each return is one case of the definition.
+use Rattle.std.proofs.Common.{rules}
 use Rattle.arri_mini.specs.Dynamic.{factors_of}
 use Rattle.arri_mini.proofs.Constants.{one64}
 use Rattle.arri_mini.proofs.factors_of.Goals as goal
 
-pub returns-in_default : goal.returns-in_default
+pub returns-in_err-red : goal.returns-in_err-red
 unfolding factors_of
-returns-in_default c = rw c.in_default.is
+returns-in_err-red c = search rules
 
-pub returns-in_default-blue : goal.returns-in_default-blue
+pub returns-in_err-blue : goal.returns-in_err-blue
 unfolding factors_of
-returns-in_default-blue c = rw (c.in-Is.is, c.in_default-blue.is)
+returns-in_err-blue c = search rules
 
 pub returns : goal.returns
 unfolding factors_of
-returns c =
-    rw (c.in-Is.is, c.in-Is-blue.is, c.widen-2.ensures, c.widen.ensures, one64)
+returns c = search (rules, one64)

@@ -1,9 +1,8 @@
 -- `arri_mini::of_dynamic` meets its contract, field by field: each is its kind of the number at its place.
+use Rattle.std.specs.Prelude.{None}
 use mathlib.Core.Bool.{Bool, ◌||◌}
 use mathlib.Core.Path.{ap, ap₂, ◌∙◌}
 use Rattle.frame_values.specs.Values.{float_of, positive, single_thousandths, double_thousandths, tilt_roll_of}
-use Rattle.frame_values.specs.declared.Whole32.TheVariants as whole32
-use Rattle.frame_values.specs.declared.Double.TheVariants as double
 use Rattle.arri_mini.specs.Dynamic.{is_set, is_known, version_of, shutter_of, angle_of, t_stop_of, distance_of, factors_of, dynamic_of}
 use Rattle.arri_mini.proofs.of_dynamic.Goals as goal
 
@@ -23,12 +22,12 @@ returns c =
       exposure_time = (c.double_thousandths.ensures ∙ ap₂ double_thousandths (c.is_set.ensures ∙ ap is_set exposure) exposure) i;
       shutter_angle = (c.shutter_of.ensures ∙ ap₂ shutter_of (c.version_of.ensures ∙ ap version_of c.four_at-2.ensures) c.four_at-3.ensures) i;
       tilt_roll = (c.tilt_roll_of.ensures ∙ ap₂ tilt_roll_of (c.angle_of.ensures ∙ ap angle_of c.four_at-4.ensures) (c.angle_of-2.ensures ∙ ap angle_of c.four_at-5.ensures)) i;
-      exposure_index = whole32.Nothing;
-      white_balance = whole32.Nothing;
-      nd_density = double.Nothing;
+      exposure_index = None;
+      white_balance = None;
+      nd_density = None;
       effective_focal_length = (c.double_thousandths-2.ensures ∙ ap₂ double_thousandths (c.is_known.ensures ∙ ap is_known effective) effective) i;
       white_balance_factors = (c.factors_of.ensures ∙ ap₂ factors_of (c.float_of.ensures ∙ ap float_of c.four_at-6.ensures) (c.float_of-2.ensures ∙ ap float_of c.four_at-7.ensures)) i;
       encoders = c.encoders_of.ensures i;
-      tint = double.Nothing;
-      sensor_rate = double.Nothing;
+      tint = None;
+      sensor_rate = None;
     }

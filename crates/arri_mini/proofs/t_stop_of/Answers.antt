@@ -1,11 +1,12 @@
 -- `arri_mini::t_stop_of` meets its contract: each return is one case of the definition.
+use Rattle.std.proofs.Common.{rules}
 use Rattle.arri_mini.specs.Dynamic.{t_stop_of}
 use Rattle.arri_mini.proofs.t_stop_of.Goals as goal
 
-pub returns-in_default : goal.returns-in_default
+pub returns-in_err-x : goal.returns-in_err-x
 unfolding t_stop_of
-returns-in_default c = rw c.in_default.is
+returns-in_err-x c = search rules
 
 pub returns : goal.returns
 unfolding t_stop_of
-returns c = rw c.in-Is.is
+returns c = search rules

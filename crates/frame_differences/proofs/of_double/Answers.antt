@@ -1,11 +1,12 @@
 -- `frame_differences::of_double` says each case of the value.
+use Rattle.std.proofs.Common.{rules}
 use Rattle.frame_differences.specs.Said.{of_double}
 use Rattle.frame_differences.proofs.of_double.Goals as goal
 
-pub returns-in-Is : goal.returns-in-Is
+pub returns-in_err-v : goal.returns-in_err-v
 unfolding of_double
-returns-in-Is c = rw (c.in-Is.is, c.one.ensures, c.f64_bits.ensures)
+returns-in_err-v c = search rules
 
-pub returns-in-Nothing : goal.returns-in-Nothing
+pub returns : goal.returns
 unfolding of_double
-returns-in-Nothing c = rw (c.in-Nothing.is, c.one-in-Nothing.ensures)
+returns c = search rules

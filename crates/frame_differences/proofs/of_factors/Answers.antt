@@ -1,11 +1,12 @@
 -- `frame_differences::of_factors` says each case of the value.
+use Rattle.std.proofs.Common.{rules}
 use Rattle.frame_differences.specs.Said.{of_factors}
 use Rattle.frame_differences.proofs.of_factors.Goals as goal
 
-pub returns-in-Are : goal.returns-in-Are
+pub returns-in_err-k : goal.returns-in_err-k
 unfolding of_factors
-returns-in-Are c = rw (c.in-Are.is, c.f64_bits-red.ensures, c.f64_bits-green.ensures, c.f64_bits-blue.ensures)
+returns-in_err-k c = search rules
 
-pub returns-in-Nothing : goal.returns-in-Nothing
+pub returns : goal.returns
 unfolding of_factors
-returns-in-Nothing c = rw (c.in-Nothing.is, c.one.ensures)
+returns c = search rules

@@ -1,11 +1,12 @@
 -- `frame_differences::of_tilt_roll` says each case of the value.
+use Rattle.std.proofs.Common.{rules}
 use Rattle.frame_differences.specs.Said.{of_tilt_roll}
 use Rattle.frame_differences.proofs.of_tilt_roll.Goals as goal
 
-pub returns-in-Are : goal.returns-in-Are
+pub returns-in_err-a : goal.returns-in_err-a
 unfolding of_tilt_roll
-returns-in-Are c = rw (c.in-Are.is, c.f32_bits-tilt.ensures, c.f32_bits-roll.ensures)
+returns-in_err-a c = search rules
 
-pub returns-in-Nothing : goal.returns-in-Nothing
+pub returns : goal.returns
 unfolding of_tilt_roll
-returns-in-Nothing c = rw (c.in-Nothing.is, c.one.ensures)
+returns c = search rules

@@ -1,15 +1,16 @@
 -- `frame_values::tilt_roll_of` meets its contract: each return is one case of the definition.
+use Rattle.std.proofs.Common.{rules}
 use Rattle.frame_values.specs.Values.{tilt_roll_of}
 use Rattle.frame_values.proofs.tilt_roll_of.Goals as goal
 
-pub returns-in_default : goal.returns-in_default
+pub returns-in_err-tilt : goal.returns-in_err-tilt
 unfolding tilt_roll_of
-returns-in_default c = rw c.in_default.is
+returns-in_err-tilt c = search rules
 
-pub returns-in_default-roll : goal.returns-in_default-roll
+pub returns-in_err-roll : goal.returns-in_err-roll
 unfolding tilt_roll_of
-returns-in_default-roll c = rw (c.in-Is.is, c.in_default-roll.is)
+returns-in_err-roll c = search rules
 
 pub returns : goal.returns
 unfolding tilt_roll_of
-returns c = rw (c.in-Is.is, c.in-Is-roll.is)
+returns c = search rules

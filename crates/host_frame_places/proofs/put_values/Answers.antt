@@ -3,10 +3,10 @@ use mathlib.Core.Path.{refl}
 use Rattle.host_frame_places.specs.Places.{value_slots}
 use Rattle.host_frame_places.proofs.put_values.Goals as goal
 
-pub returns-in-Are : goal.returns-in-Are
+pub returns-in-Some : goal.returns-in-Some
 unfolding value_slots
-returns-in-Are c = rw c.in-Are.is record { kind_after = c.put_frame.ensures.kind_after; bits_after = c.put_frame.ensures.bits_after }
+returns-in-Some c = rw c.in-Some.is record { kind_after = c.put_frame.ensures.kind_after; bits_after = c.put_frame.ensures.bits_after }
 
-pub returns-in-Nothing : goal.returns-in-Nothing
+pub returns-in-None : goal.returns-in-None
 unfolding value_slots
-returns-in-Nothing c = rw c.in-Nothing.is record { kind_after = refl; bits_after = refl }
+returns-in-None c = rw c.in-None.is record { kind_after = refl; bits_after = refl }

@@ -17,5 +17,5 @@ returns c =
     let room : 458752 ≤ length c.args.out.now = omega arith in
     record {
       out_after = IfOk-weaker _ _ _ (λ l (x : Lists c.args.st c.args.piece.now c.args.out.now 0 c.put_piece.new.out l). whole _ _ (label (goal.at.returns c).Start) c.requires room x.put) lists;
-      prefix_len = IfOk-weaker _ _ _ (λ l (x : Lists c.args.st c.args.piece.now c.args.out.now 0 c.put_piece.new.out l). prefix_len_of_le _ _ (put-room x.put room)) lists;
+      prefix_len = IfOk-weaker _ _ _ (λ l (x : Lists c.args.st c.args.piece.now c.args.out.now 0 c.put_piece.new.out l). prefix_len_of_le _ _ (put-room x.put (omega arith))) lists;
     }

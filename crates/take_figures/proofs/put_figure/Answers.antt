@@ -1,12 +1,11 @@
 -- `take_figures::put_figure` puts `-` for nothing, and else the value.
 use Rattle.take_figures.specs.Figures.{figure_text}
-use borrow.Author.Tests.{ne_eqb}
 use Rattle.take_figures.proofs.put_figure.Goals as goal
 
-pub returns-then-s-eq0 : goal.returns-then-s-eq0
+pub returns-in-Some : goal.returns-in-Some
 unfolding figure_text
-returns-then-s-eq0 c = rw c.if-s-eq0.true c.put_byte.ensures
+returns-in-Some c = rw c.in-Some.is c.put_value.ensures
 
-pub returns : goal.returns
+pub returns-in-None : goal.returns-in-None
 unfolding figure_text
-returns c = rw (ne_eqb _ _ c.if-s-eq0.false) c.put_value.ensures
+returns-in-None c = rw c.in-None.is c.put_byte.ensures

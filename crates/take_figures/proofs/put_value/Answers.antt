@@ -1,10 +1,11 @@
--- `take_figures::put_value` puts the value by its form.
+-- `take_figures::put_value` puts each kind of value.
+use mathlib.Core.Path.{sym}
 use Rattle.take_figures.specs.Figures.{value_text}
 use Rattle.take_figures.proofs.put_value.Goals as goal
 
 pub returns-in-Single : goal.returns-in-Single
 unfolding value_text
-returns-in-Single c = rw c.in-Single.is c.put_bits.ensures
+returns-in-Single c = rw (c.in-Single.is, sym c.from.ensures) c.put_bits.ensures
 
 pub returns-in-Double : goal.returns-in-Double
 unfolding value_text
@@ -14,17 +15,17 @@ pub returns-in-Whole : goal.returns-in-Whole
 unfolding value_text
 returns-in-Whole c = rw c.in-Whole.is c.put_decimal.ensures
 
-pub returns-in-Distance : goal.returns-in-Distance
+pub returns-in-Infinity : goal.returns-in-Infinity
 unfolding value_text
-returns-in-Distance c = rw c.in-Distance.is c.put_distance.ensures
+returns-in-Infinity c = rw c.in-Infinity.is c.put_all.ensures
 
-pub returns-in-TStop : goal.returns-in-TStop
+pub returns-in-Linear : goal.returns-in-Linear
 unfolding value_text
-returns-in-TStop c = rw c.in-TStop.is c.put_stop.ensures
+returns-in-Linear c = rw (c.in-Linear.is, sym c.from-in-Linear.ensures) c.put_decimal-in-Linear.ensures
 
-pub returns-in-TiltRoll : goal.returns-in-TiltRoll
+pub returns-in-Angles : goal.returns-in-Angles
 unfolding value_text
-returns-in-TiltRoll c = rw c.in-TiltRoll.is c.put_pair.ensures
+returns-in-Angles c = rw c.in-Angles.is c.put_pair.ensures
 
 pub returns-in-Factors : goal.returns-in-Factors
 unfolding value_text

@@ -2,18 +2,18 @@
 use Rattle.take_frames.specs.Compared.{marked, compared}
 use Rattle.take_frames.proofs.compare.Goals as goal
 
-pub returns-then-y : goal.returns-then-y
-unfolding compared marked
-returns-then-y c = rw (c.if-x.true, c.if-y.true)
+pub returns-in-true-true : goal.returns-in-true-true
+unfolding marked compared
+returns-in-true-true c = rw (c.in-true-true.is-0, c.in-true-true.is-1)
 
-pub returns-then-x : goal.returns-then-x
-unfolding compared marked
-returns-then-x c = rw (c.if-x.true, c.if-y.false)
+pub returns-in-true-false : goal.returns-in-true-false
+unfolding marked compared
+returns-in-true-false c = rw (c.in-true-false.is-0, c.in-true-false.is-1)
 
-pub returns-then-y-2 : goal.returns-then-y-2
-unfolding compared marked
-returns-then-y-2 c = rw (c.if-x.false, c.if-y-2.true)
+pub returns-in-false-true : goal.returns-in-false-true
+unfolding marked compared
+returns-in-false-true c = rw (c.in-false-true.is-0, c.in-false-true.is-1)
 
-pub returns : goal.returns
-unfolding compared marked
-returns c = rw (c.if-x.false, c.if-y-2.false) c.values_compared.ensures
+pub returns-in-false-false : goal.returns-in-false-false
+unfolding marked compared
+returns-in-false-false c = rw (c.in-false-false.is-0, c.in-false-false.is-1) c.values_compared.ensures

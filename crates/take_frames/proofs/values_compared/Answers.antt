@@ -2,18 +2,18 @@
 use Rattle.take_frames.specs.Compared.{values_compared}
 use Rattle.take_frames.proofs.values_compared.Goals as goal
 
-pub returns-in-Are-w : goal.returns-in-Are-w
+pub returns-in-Some-Some : goal.returns-in-Some-Some
 unfolding values_compared
-returns-in-Are-w c = rw (c.in-Are.is, c.in-Are-w.is, c.of_mask.ensures, c.fields.ensures)
+returns-in-Some-Some c = rw (c.in-Some-Some.is-0, c.in-Some-Some.is-1, c.of_mask.ensures, c.fields.ensures)
 
-pub returns-in-Nothing-w : goal.returns-in-Nothing-w
+pub returns-in-Some-None : goal.returns-in-Some-None
 unfolding values_compared
-returns-in-Nothing-w c = rw (c.in-Are.is, c.in-Nothing-w.is)
+returns-in-Some-None c = rw (c.in-Some-None.is-0, c.in-Some-None.is-1)
 
-pub returns-in-Are-w-2 : goal.returns-in-Are-w-2
+pub returns-in-None-Some : goal.returns-in-None-Some
 unfolding values_compared
-returns-in-Are-w-2 c = rw (c.in-Nothing.is, c.in-Are-w-2.is)
+returns-in-None-Some c = rw (c.in-None-Some.is-0, c.in-None-Some.is-1)
 
-pub returns-in-Nothing-w-2 : goal.returns-in-Nothing-w-2
+pub returns-in-None-None : goal.returns-in-None-None
 unfolding values_compared
-returns-in-Nothing-w-2 c = rw (c.in-Nothing.is, c.in-Nothing-w-2.is)
+returns-in-None-None c = rw (c.in-None-None.is-0, c.in-None-None.is-1)

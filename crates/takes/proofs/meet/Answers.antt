@@ -1,24 +1,19 @@
 -- `takes::meet` answers each case of the two sides.
-use Rattle.std.proofs.Common.{sym, ◌∙◌}
-use Rattle.takes.specs.Takes.{met_as, met_of}
+use Rattle.takes.specs.Takes.{differing, met_of}
 use Rattle.takes.proofs.meet.Goals as goal
 
-pub returns-in-Same : goal.returns-in-Same
-unfolding met_of met_as
-returns-in-Same c = rw (c.in-Frame.is, c.in-Frame-y.is, sym c.compare-c.ensures ∙ c.in-Same.is, c.wrapping_add_u64-after.ensures.value)
-
-pub returns-in-Differs : goal.returns-in-Differs
-unfolding met_of met_as
-returns-in-Differs c = rw (c.in-Frame.is, c.in-Frame-y.is, sym c.compare-c.ensures ∙ c.in-Differs.is, c.wrapping_add_u64-after.ensures.value)
-
-pub returns-in-Over-y : goal.returns-in-Over-y
+pub returns-in-Some-Some : goal.returns-in-Some-Some
 unfolding met_of
-returns-in-Over-y c = rw (c.in-Frame.is, c.in-Over-y.is, c.wrapping_add_u64-after.ensures.value)
+returns-in-Some-Some c = rw (c.in-Some-Some.is-0, c.in-Some-Some.is-1, c.differing.ensures, c.compare.ensures)
 
-pub returns-in-Frame-y-2 : goal.returns-in-Frame-y-2
-unfolding met_of
-returns-in-Frame-y-2 c = rw (c.in-Over.is, c.in-Frame-y-2.is, c.wrapping_add_u64-after.ensures.value)
+pub returns-in-Some-None : goal.returns-in-Some-None
+unfolding met_of differing
+returns-in-Some-None c = rw (c.in-Some-None.is-0, c.in-Some-None.is-1, c.differing-in-Some-None.ensures)
 
-pub returns-in-Over-y-2 : goal.returns-in-Over-y-2
+pub returns-in-None-Some : goal.returns-in-None-Some
+unfolding met_of differing
+returns-in-None-Some c = rw (c.in-None-Some.is-0, c.in-None-Some.is-1, c.differing-in-None-Some.ensures)
+
+pub returns-in-None-None : goal.returns-in-None-None
 unfolding met_of
-returns-in-Over-y-2 c = rw (c.in-Over.is, c.in-Over-y-2.is)
+returns-in-None-None c = rw (c.in-None-None.is-0, c.in-None-None.is-1)
