@@ -2,22 +2,8 @@
 // docs/RULES.md: "numbers are big-endian"; "`vec![0; length]`: parts of the buffer".
 #![tactic(auto)]
 
-ghost use Rattle.std.specs.Prelude.{◌≡◌, ◌-◌, ◌%◌, ◌^◌, min, take, drop};
+ghost use Rattle.std.specs.Prelude.{◌≡◌, ◌%◌, ◌^◌, take, drop};
 ghost use Rattle.parts.specs.Number.{number_of, one_at, two_at, four_at};
-
-// The smaller of two.
-pub fn lesser(a: usize, b: usize) -> usize
-    ensures { result ≡ min a b }
-{
-    if a <= b { a } else { b }
-}
-
-// a - b, or 0 where b is the larger.
-pub fn saturating_sub(a: usize, b: usize) -> usize
-    ensures { result ≡ a - b }
-{
-    if b <= a { a - b } else { 0 }
-}
 
 // The part of at most len bytes from a place on: as much of it as is there.
 pub fn part(s: &[u8], at: usize, len: usize) -> &[u8]
@@ -26,13 +12,6 @@ pub fn part(s: &[u8], at: usize, len: usize) -> &[u8]
     let start = at.min(s.len());
     let end = start + len.min(s.len() - start);
     &s[start..end]
-}
-
-// A byte as a u64.
-pub fn u64_of(b: u8) -> u64
-    ensures { result ≡ b }
-{
-    b as u64
 }
 
 // The number that the bytes hold, the first one the highest; of more than eight bytes its low 64 bits.

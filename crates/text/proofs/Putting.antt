@@ -81,7 +81,7 @@ put_part s o ys at n k h e q t =
     let long : length (take n s) ≡ n = omega (arith, length-take n s) in
     record {
       wrote = sym (sets_cut s o at n e ∙ sets-eq (take n s) o at (omega arith)
-      ∙ append_assoc (take at o) (take n s) _ ∙ rw (drop-drop, long, q, t));
+          ∙ append_assoc (take at o) (take n s) _ ∙ rw (drop-drop, long, q, t));
       place = omega arith;
     }
 

@@ -13,9 +13,9 @@ pub returns : goal.returns
 returns c =
     elim c.match-c.branch [
       | in-None w ↦
-        let all = is_clean _ _ _ _ (rw (c.state_of.ensures, c.in-Ok.is, w.in-None.is) at c.close.ensures) in
-        record { value = all.0; state_after = rw c.put_state.ensures all.1.0; out_after = w.out-is ∙ all.1.1 }
+          let all = is_clean _ _ _ _ (rw (c.state_of.ensures, c.in-Ok.is, w.in-None.is) at c.close.ensures) in
+          record { value = all.0; state_after = rw c.put_state.ensures all.1.0; out_after = w.out-is ∙ all.1.1 }
       | in-Some w ↦
-        let all = is_again _ _ _ _ _ (rw (c.state_of.ensures, c.in-Ok.is, w.in-Some.is) at c.close.ensures) in
-        record { value = all.0; state_after = rw c.put_state.ensures all.1.0; out_after = w.out-is ∙ all.1.1 }
+          let all = is_again _ _ _ _ _ (rw (c.state_of.ensures, c.in-Ok.is, w.in-Some.is) at c.close.ensures) in
+          record { value = all.0; state_after = rw c.put_state.ensures all.1.0; out_after = w.out-is ∙ all.1.1 }
     ]
