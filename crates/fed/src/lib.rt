@@ -18,7 +18,7 @@ use walk::{Cursor, Step};
 
 // What feeding a piece comes to: the state, how many bytes were taken, and the record that the last of them completes, with the
 // bytes passed before it. Its label is the state's.
-#[derive(Clone, Copy)]
+#[derive(Clone, Copy, Debug, PartialEq, Eq)]
 pub struct Fed {
     pub state: State,
     pub taken: usize,
@@ -26,7 +26,7 @@ pub struct Fed {
 }
 
 // What a byte comes to.
-#[derive(Clone, Copy)]
+#[derive(Clone, Copy, Debug, PartialEq, Eq)]
 pub struct Eaten {
     pub state: State,
     pub found: Option<(Klv, usize)>,

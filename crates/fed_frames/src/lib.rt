@@ -18,7 +18,7 @@ use frame_walks::{Camera, FrameElement, Kind, kind_of, longest_of};
 use klv::Klv;
 use std::ops::ControlFlow;
 
-#[derive(Clone, Copy)]
+#[derive(Clone, Copy, Debug, PartialEq, Eq)]
 pub struct FrameState {
     // The walk of records.
     pub state: State,
@@ -54,7 +54,7 @@ pub fn open_end(camera: Camera, end: usize, number: u64) -> FrameState
 }
 
 // What a call answers.
-#[derive(Clone, Copy)]
+#[derive(Clone, Copy, Debug, PartialEq, Eq)]
 pub enum FrameAnswer {
     // All bytes are taken, and no frame is complete.
     Nothing,
@@ -65,7 +65,7 @@ pub enum FrameAnswer {
 }
 
 // What feeding a piece comes to. The next byte is the one at the place where the walk of records then stands.
-#[derive(Clone, Copy)]
+#[derive(Clone, Copy, Debug, PartialEq, Eq)]
 pub struct FedFrames {
     pub walk: FrameState,
     pub taken: usize,
@@ -159,7 +159,7 @@ pub fn feed(w: FrameState, piece: &[u8]) -> Result<FedFrames, FedError>
 }
 
 // What closing comes to: the walk, and a rest where a value misses bytes, as of a walk of records.
-#[derive(Clone, Copy)]
+#[derive(Clone, Copy, Debug, PartialEq, Eq)]
 pub struct ShutFrames {
     pub walk: FrameState,
     pub rest: Option<Rest>,

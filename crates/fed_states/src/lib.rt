@@ -9,7 +9,7 @@ ghost use Rattle.fed_states.specs.Close.{refused_by, rest_told, close_told, ends
 use lengths::{Field, NoLength};
 
 // A walk as it is between two pieces.
-#[derive(Clone, Copy)]
+#[derive(Clone, Copy, Debug, PartialEq, Eq)]
 pub struct State {
     // How many bytes may come.
     pub limit: usize,
@@ -154,7 +154,7 @@ pub struct Rest {
 
 // What closing comes to: the state, and a rest where a value misses bytes. Where there is none, the finished list of the bytes
 // that came is out.
-#[derive(Clone, Copy)]
+#[derive(Clone, Copy, Debug, PartialEq, Eq)]
 pub struct Shut {
     pub state: State,
     pub rest: Option<Rest>,

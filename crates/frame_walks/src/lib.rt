@@ -32,7 +32,7 @@ pub enum Camera {
 }
 
 // A frame's element: the frame's number, the element, and whether it is longer than any that is read, so that it has no values.
-#[derive(Clone, Copy)]
+#[derive(Clone, Copy, Debug, PartialEq, Eq)]
 pub struct FrameElement {
     pub number: u64,
     pub element: Klv,
@@ -40,7 +40,7 @@ pub struct FrameElement {
 }
 
 // Where a frame walk stands, where walking last went on, and the next frame's number.
-#[derive(Clone, Copy)]
+#[derive(Clone, Copy, Debug, PartialEq, Eq)]
 pub struct Place {
     pub at: usize,
     pub since: usize,
@@ -48,7 +48,7 @@ pub struct Place {
 }
 
 // Sony's walk.
-#[derive(Clone, Copy)]
+#[derive(Clone, Copy, Debug, PartialEq, Eq)]
 pub struct Sony {
     pub place: Place,
 }
@@ -62,7 +62,7 @@ impl Sony {
 }
 
 // ARRI's walk.
-#[derive(Clone, Copy)]
+#[derive(Clone, Copy, Debug, PartialEq, Eq)]
 pub struct Arri {
     pub place: Place,
 }
@@ -78,7 +78,7 @@ impl Arri {
 }
 
 // Canon's walk is Sony's, and gives the values of two labels too.
-#[derive(Clone, Copy)]
+#[derive(Clone, Copy, Debug, PartialEq, Eq)]
 pub struct Canon {
     pub place: Place,
 }
@@ -156,7 +156,7 @@ pub fn longest_of(camera: Camera) -> usize
 }
 
 // What a step of a frame walk finds.
-#[derive(Clone, Copy)]
+#[derive(Clone, Copy, Debug, PartialEq, Eq)]
 pub enum FrameStep {
     // A frame, the bytes passed before it, and the place to go on from.
     Frame(FrameElement, usize, Place),

@@ -13,7 +13,7 @@ use klv::Klv;
 use walk::{Cursor, Step, Way};
 
 // How many records were put, where the next step starts, and where walking last went on.
-#[derive(Clone, Copy)]
+#[derive(Clone, Copy, Debug, PartialEq, Eq)]
 pub struct Batch {
     pub count: usize,
     pub next: usize,

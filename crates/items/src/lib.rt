@@ -52,7 +52,7 @@ fn item_at(s: &[u8], at: usize, key: usize, ber: bool) -> Option<Klv>
 }
 
 // Where a run is read.
-#[derive(Clone, Copy)]
+#[derive(Clone, Copy, Debug, PartialEq, Eq)]
 pub struct Run {
     pub at: usize,
 }
@@ -69,7 +69,7 @@ impl Run {
 }
 
 // How a set's items are coded: the bytes of a tag, and whether lengths are BER or of two bytes.
-#[derive(Clone, Copy)]
+#[derive(Clone, Copy, Debug, PartialEq, Eq)]
 pub struct Coding {
     pub tag: usize,
     pub ber: bool,
@@ -98,7 +98,7 @@ impl Coding {
 }
 
 // Where a set's items are read.
-#[derive(Clone, Copy)]
+#[derive(Clone, Copy, Debug, PartialEq, Eq)]
 pub struct Local {
     pub at: usize,
 }

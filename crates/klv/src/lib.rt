@@ -7,7 +7,7 @@ ghost use Rattle.labels.specs.Label.{label_at};
 
 // No two fields that a host is given side by side stand side by side here: they would be loaded as one, right behind two stores, and
 // x86-64 waits for that.
-#[derive(Clone, Copy)]
+#[derive(Clone, Copy, Debug, PartialEq, Eq)]
 pub struct Klv {
     pub value: usize,
     pub size: usize,

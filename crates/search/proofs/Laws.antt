@@ -6,7 +6,10 @@ use mathlib.Core.Bool.{Bool, true, false, cond, ◌&&◌, ◌||◌, and-false}
 use native.Mathlib.Nat.{le_refl}
 use native.Mathlib.Numerals.{add-one}
 use native.Mathlib.Omega.{arith}
-use lib.ListN.{length, get_or, drop, drop_of_length-le, length-drop}
+use native.Mathlib.Decide.{dec_le}
+use mathlib.Core.Logic.{by_cases}
+use Rattle.std.proofs.lemmas.List.{get_or-take}
+use lib.ListN.{length, get_or, take, drop, drop_of_length-le, length-drop}
 use lib.Dec.{eqb}
 use borrow.Author.Tests.{le-leb, lt-leb}
 use Rattle.labels.specs.Label.{beginning, key_at, key_start}
@@ -36,6 +39,26 @@ module _ (s : List ℕ) (e q : ℕ) where
 
   pub end-within : e ≤ length s → search_from s e q ≡ next_key s e q
   end-within h = let z : min e (length s) ≡ e = omega arith in rw z
+
+-- a buffer that is cut there
+pub first-same : (t u : ℕ → Bool) (n q : ℕ) → ((i : ℕ) → t i ≡ u i) → first t n q ≡ first u n q
+unfolding first
+first-same t u zero q same = refl
+first-same t u (suc n) q same = rw (same q, first-same t u n (suc q) same)
+
+module _ (s : List ℕ) (e : ℕ) where
+  key-cut : (q : ℕ) → q + 4 ≤ e → key_at (take e s) q ≡ key_at s q
+  unfolding key_at
+  key-cut q h =
+      rw (get_or-take e s q 0 (omega arith), get_or-take e s (q + 1) 0 (omega arith), get_or-take e s (q + 2) 0 (omega arith), get_or-take e s (q + 3) 0 (omega arith))
+
+  before-cut : (q : ℕ) → key_before (take e s) e q ≡ key_before s e q
+  before-cut q =
+      by_cases (dec_le (q + 4) e) (λ h. sym (key-within (take e s) e q h) ∙ key-cut q h ∙ key-within s e q h) (λ h. sym (key-past (take e s) e q (omega arith)) ∙ key-past s e q (omega arith))
+
+  pub search_cut : (q : ℕ) → search_from (take e s) e q ≡ search_from s e q
+  unfolding first_below
+  search_cut q = first-same (key_before (take e s) e) (key_before s e) (e - q) q before-cut
 
 module _ (t : ℕ → Bool) (e : ℕ) where
   pub search_end : (q : ℕ) → e ≤ q → q ≡ first_below t e q

@@ -30,22 +30,21 @@ pub fn key_at(s: &[u8], q: usize) -> bool
 }
 
 // The search place by place.
-fn scan(s: &[u8], end: usize, from: usize) -> usize
-    requires { end ≤ length s.now }
-    ensures { result ≡ search_from s.now end from }
+fn scan(s: &[u8], from: usize) -> usize
+    ensures { result ≡ search_from s.now (length s.now) from }
 {
-    if end <= from {
+    if s.len() <= from {
         return from;
     }
-    if end < 4 {
-        return end;
+    if s.len() < 4 {
+        return s.len();
     }
-    for q in from..end - 3 {
+    for q in from..s.len() - 3 {
         if stands(s, q) {
             return q;
         }
     }
-    end
+    s.len()
 }
 
 // Whether the second and the last byte of a key's start stand at one of 64 places: 06, the first, is the most common of
@@ -104,46 +103,44 @@ fn near(s: &[u8], at: usize) -> usize
 }
 
 // The search from where a key's start is near.
-fn soon(s: &[u8], end: usize, from: usize) -> usize
-    requires { end ≤ length s.now }
-    ensures { result ≡ search_from s.now end from }
+fn soon(s: &[u8], from: usize) -> usize
+    ensures { result ≡ search_from s.now (length s.now) from }
 {
-    if end < 19 {
-        return scan(s, end, from);
+    if s.len() < 19 {
+        return scan(s, from);
     }
-    if end - 19 < from {
-        return scan(s, end, from);
+    if s.len() - 19 < from {
+        return scan(s, from);
     }
     let first = near(s, from);
     if first < from + 16 {
         return first;
     }
-    scan(s, end, first)
+    scan(s, first)
 }
 
 // The search in blocks, and place by place from the 16 that have a key's start. The last block begins as far back as it must to
 // be whole.
-fn seek(s: &[u8], end: usize, from: usize) -> usize
-    requires { end ≤ length s.now }
-    ensures { result ≡ search_from s.now end from }
+fn seek(s: &[u8], from: usize) -> usize
+    ensures { result ≡ search_from s.now (length s.now) from }
 {
-    if end < 67 {
-        return scan(s, end, from);
+    if s.len() < 67 {
+        return scan(s, from);
     }
-    let last = end - 67;
+    let last = s.len() - 67;
     if last < from {
-        return scan(s, end, from);
+        return scan(s, from);
     }
     let mut q = from;
     while q < last + 64 {
         let at = q.min(last);
         let r = pass(s, at);
         if r < at + 64 {
-            return soon(s, end, q + r.saturating_sub(q));
+            return soon(s, q + r.saturating_sub(q));
         }
         q = r;
     }
-    end
+    s.len()
 }
 
 // The first place from one on where a key's start stands wholly before the end, else the end, which is cut to the
@@ -151,10 +148,7 @@ fn seek(s: &[u8], end: usize, from: usize) -> usize
 pub fn next_key(s: &[u8], end: usize, from: usize) -> usize
     ensures { result ≡ next_key s.now end from }
 {
-    if s.len() < end {
-        return seek(s, s.len(), from);
-    }
-    seek(s, end, from)
+    seek(&s[..end.min(s.len())], from)
 }
 
 // Whether all bytes from a place to the end are a beginning of a key's start.

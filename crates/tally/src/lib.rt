@@ -48,7 +48,7 @@ pub fn group_at(s: &[u8], firsts: &[usize], groups: usize, p: usize) -> u64
 }
 
 // How many groups stand in the lent lists, and how many records fit none.
-#[derive(Clone, Copy)]
+#[derive(Clone, Copy, Debug, PartialEq, Eq)]
 pub struct Tally {
     pub groups: usize,
     pub other: usize,

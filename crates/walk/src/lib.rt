@@ -14,7 +14,7 @@ use klv::Klv;
 use lengths::NoLength;
 
 // What the rules say at a place.
-#[derive(Clone, Copy)]
+#[derive(Clone, Copy, Debug, PartialEq, Eq)]
 pub enum Turn {
     // The step ends here.
     Stop,
@@ -24,47 +24,8 @@ pub enum Turn {
     Record(Klv),
 }
 
-// Rules 1 to 4 at a place. A value that is missing is waited for if it ends within the limit: a finished walk, which
-// waits for nothing, has the limit 0.
-fn look(s: &[u8], end: usize, limit: usize, p: usize) -> Turn
-    requires { end ≤ length s.now }
-    ensures { result ≡ rules limit s.now end p }
-{
-    if end < 17 {
-        return Turn::Stop;
-    }
-    if end - 17 < p {
-        return Turn::Stop;
-    }
-    if !search::key_at(s, p) {
-        return Turn::Search(p + 1);
-    }
-    let l = lengths::read(s, p + 16);
-    let Ok(f) = l else {
-        if l == Err(NoLength::Cut) {
-            return Turn::Stop;
-        }
-        return Turn::Search(p + 17);
-    };
-    let v = p + 16 + f.size;
-    let n = f.value;
-    if n <= end.saturating_sub(v) as u64 {
-        return Turn::Record(Klv {
-            at: p,
-            value: v,
-            len: n as usize,
-            size: f.size,
-            shortest: f.shortest,
-        });
-    }
-    if n <= limit.saturating_sub(v) as u64 {
-        return Turn::Stop;
-    }
-    Turn::Search(v)
-}
-
 // Where the turns from a place on lead.
-#[derive(Clone, Copy)]
+#[derive(Clone, Copy, Debug, PartialEq, Eq)]
 pub enum Walked {
     // To a record.
     Found(Klv),
@@ -74,35 +35,81 @@ pub enum Walked {
     Lost(usize),
 }
 
-// The rules from where a search from q on leads, turn by turn.
-fn searched(s: &[u8], end: usize, limit: usize, from: usize) -> Walked
-    requires { end ≤ length s.now }
-    ensures { result ≡ on_turn (walked limit s.now end) s.now end from (turn.Search from) }
-{
-    let mut q = from;
-    loop {
-        let p = search::next_key(s, end, q);
-        if end <= p {
-            return Walked::Lost(q);
-        }
-        let t = look(s, end, limit, p);
-        match t {
-            Turn::Stop => return Walked::Stopped(p),
-            Turn::Record(k) => return Walked::Found(k),
-            Turn::Search(next) => q = next,
-        }
-    }
+// The bytes up to an end inside a buffer, and the limit within which a value that is missing is waited for: a finished walk, which
+// waits for nothing, has the limit 0. A length may be read past the end, so the buffer is not cut there.
+#[derive(Clone, Copy)]
+struct Within<'a> {
+    bytes: &'a [u8],
+    end: usize,
+    limit: usize,
+    ghost inside: { end ≤ length bytes.now },
 }
 
-// Where the turns from a place on lead.
-fn turns(s: &[u8], end: usize, limit: usize, p: usize) -> Walked
-    requires { end ≤ length s.now }
-    ensures { result ≡ walked limit s.now end p }
-{
-    match look(s, end, limit, p) {
-        Turn::Stop => Walked::Stopped(p),
-        Turn::Record(k) => Walked::Found(k),
-        Turn::Search(from) => searched(s, end, limit, from),
+impl<'a> Within<'a> {
+    // Rules 1 to 4 at a place.
+    fn look(self, p: usize) -> Turn
+        ensures { result ≡ rules self.entry.limit self.entry.bytes.now self.entry.end p }
+    {
+        if self.end < 17 {
+            return Turn::Stop;
+        }
+        if self.end - 17 < p {
+            return Turn::Stop;
+        }
+        if !search::key_at(self.bytes, p) {
+            return Turn::Search(p + 1);
+        }
+        let l = lengths::read(self.bytes, p + 16);
+        let Ok(f) = l else {
+            if l == Err(NoLength::Cut) {
+                return Turn::Stop;
+            }
+            return Turn::Search(p + 17);
+        };
+        let v = p + 16 + f.size;
+        let n = f.value;
+        if n <= self.end.saturating_sub(v) as u64 {
+            return Turn::Record(Klv {
+                at: p,
+                value: v,
+                len: n as usize,
+                size: f.size,
+                shortest: f.shortest,
+            });
+        }
+        if n <= self.limit.saturating_sub(v) as u64 {
+            return Turn::Stop;
+        }
+        Turn::Search(v)
+    }
+
+    // The rules from where a search from q on leads, turn by turn.
+    fn searched(self, from: usize) -> Walked
+        ensures { let w = self.entry in result ≡ on_turn (walked w.limit w.bytes.now w.end) w.bytes.now w.end from (turn.Search from) }
+    {
+        let mut q = from;
+        loop {
+            let p = search::next_key(self.bytes, self.end, q);
+            if self.end <= p {
+                return Walked::Lost(q);
+            }
+            match self.look(p) {
+                Turn::Stop => return Walked::Stopped(p),
+                Turn::Record(k) => return Walked::Found(k),
+                Turn::Search(next) => q = next,
+            }
+        }
+    }
+
+    // Where the turns from a place on lead.
+    fn turns(self, p: usize) -> Walked
+        ensures { result ≡ walked self.entry.limit self.entry.bytes.now self.entry.end p }
+    {
+        match self.look(p) {
+            Turn::Stop => Walked::Stopped(p),
+            Turn::Record(k) => Walked::Found(k),
+            Turn::Search(from) => self.searched(from),
+        }
     }
 }
 
@@ -159,14 +166,14 @@ impl Way {
 }
 
 // Where a walk stands, and where walking last went on.
-#[derive(Clone, Copy)]
+#[derive(Clone, Copy, Debug, PartialEq, Eq)]
 pub struct Cursor {
     pub at: usize,
     pub since: usize,
 }
 
 // What a step of a walk finds.
-#[derive(Clone, Copy)]
+#[derive(Clone, Copy, Debug, PartialEq, Eq)]
 pub enum Step {
     // A record, the bytes passed before it, and the cursor past it.
     Record(Klv, usize, Cursor),
@@ -180,8 +187,13 @@ impl Cursor {
         ensures { told s.now (cursor_of self) result ≡ step_on way s.now (cursor_of self) }
     {
         let (end, limit) = way.bounds(s)?;
+        let within = Within {
+            bytes: s,
+            end,
+            limit,
+        };
         let since = self.since.min(self.at);
-        match turns(s, end, limit, self.at) {
+        match within.turns(self.at) {
             Walked::Found(k) => {
                 let next = k.value + k.len;
                 let past = Cursor {

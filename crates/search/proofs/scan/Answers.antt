@@ -4,11 +4,11 @@ use native.Mathlib.Omega.{arith}
 use Rattle.search.proofs.Laws.{search_end, key_here, key-next, key-none}
 use Rattle.search.proofs.scan.Goals as goal
 
-pub returns-then-end-from : goal.returns-then-end-from
-returns-then-end-from c = search_end _ _ _ (omega arith)
+pub returns-then-s-from : goal.returns-then-s-from
+returns-then-s-from c = search_end _ _ _ (omega arith)
 
-pub returns-then-end-lt4 : goal.returns-then-end-lt4
-returns-then-end-lt4 c = key-none _ _ _ (omega arith) (omega arith)
+pub returns-then-s-lt4 : goal.returns-then-s-lt4
+returns-then-s-lt4 c = key-none _ _ _ (omega arith) (omega arith)
 
 pub loop-q-init : goal.loop-q-init
 loop-q-init c = (omega arith, refl)

@@ -4,6 +4,7 @@ use mathlib.Core.Path.{◌≡◌, refl, ◌∙◌}
 use mathlib.Core.Logic.{by_cases}
 use native.Mathlib.Omega.{arith}
 use native.Mathlib.Decide.{dec_lt}
+use lib.ListN.{length}
 use Rattle.search.specs.Search.{key_before, search_from}
 use Rattle.search.proofs.Laws.{key-none}
 use Rattle.search.proofs.Found.{search_between}
@@ -12,9 +13,9 @@ use Rattle.search.proofs.seek.Goals.{After-pass-r, Else-r-at}
 
 -- where the search is after a block, from places that were passed
 passed : (c : goal.After-pass-r)
-    → search_from c.args.s.now c.args.end c.pass-r.result ≡ search_from c.args.s.now c.args.end c.args.from
+    → search_from c.args.s.now (length c.args.s.now) c.pass-r.result ≡ search_from c.args.s.now (length c.args.s.now) c.args.from
 passed c =
-    let e = c.args.end in
+    let e = length c.args.s.now in
     let p = c.pass-r.ensures in
     let l = c.min-at.ensures in
     let i = c.loop-q.invariant in

@@ -11,8 +11,8 @@ returns-in_err-end c =
     let p = err_from_is_err_and c.from_residual.result c.from_residual.ensures.1 in
     rw (p.1, p.2) (on_refused _ _ _ _ (sym c.bounds.ensures ∙ c.in_err-end.was))
 
-pub turns-requires : goal.turns-requires
-turns-requires c = in-bounds _ _ _ _ (sym c.bounds.ensures ∙ c.in_ok-end.was)
+pub invariant_of-within : goal.invariant_of-within
+invariant_of-within c = record { inside = in-bounds _ _ _ _ (sym c.bounds.ensures ∙ c.in_ok-end.was) }
 
 pub overflow_add-next : goal.overflow_add-next
 overflow_add-next c = omega (arith, walk-fits _ _ _ _ _ (sym c.turns.ensures ∙ c.in-Found.is), in-bounds _ _ _ _ (sym c.bounds.ensures ∙ c.in_ok-end.was))

@@ -1,4 +1,4 @@
--- `walk::look` meets its contract: each return is one of the rules' cases.
+-- `walk::Within::look` meets its contract: each return is one of the rules' cases.
 use Rattle.std.specs.Prelude.{Ok}
 use Prim.Native.Nat.{◌+◌}
 use mathlib.Core.Path.{◌≡◌, sym, ◌∙◌}
@@ -9,17 +9,17 @@ use Rattle.lengths.specs.Length.{length_at}
 use Rattle.lengths.proofs.Laws.{Taken, taken}
 use Rattle.lengths.proofs.Errors.{cut-so, invalid-so}
 use Rattle.walk.proofs.Laws.{rule_end, rule_no_key, rule_cut, rule_none, rule_record, rule_wait, rule_late}
-use Rattle.walk.proofs.look.Goals as goal
-use Rattle.walk.proofs.look.Goals.{Else-not-key_at, In-Ok}
+use Rattle.walk.proofs.Within.look.Goals as goal
+use Rattle.walk.proofs.Within.look.Goals.{Else-not-key_at, In-Ok}
 
 -- after the test for a key there is one
-is_key : (c : goal.Else-not-key_at) → key_at c.args.s.now c.args.p ≡ true
+is_key : (c : goal.Else-not-key_at) → key_at c.args.self.bytes.now c.args.p ≡ true
 is_key c = sym c.key_at.ensures ∙ c.if-not-key_at.false
 
-is-length : (c : goal.In-Ok) → length_at c.args.s.now (c.args.p + 16) ≡ Ok c.in-Ok.f
+is-length : (c : goal.In-Ok) → length_at c.args.self.bytes.now (c.args.p + 16) ≡ Ok c.in-Ok.f
 is-length c = sym c.read-l.ensures ∙ c.in-Ok.is
 
-is-long : (c : goal.In-Ok) → Taken c.args.s.now (c.args.p + 16) c.in-Ok.f.size
+is-long : (c : goal.In-Ok) → Taken c.args.self.bytes.now (c.args.p + 16) c.in-Ok.f.size
 is-long c = taken _ _ _ (is-length c)
 
 pub returns-then-eq : goal.returns-then-eq
@@ -32,11 +32,11 @@ returns-in_default c =
     (rule_none _ _ _ _ (omega arith) (is_key (goal.at.returns-in_default c).Else-not-key_at)
     (sym c.read-l.ensures ∙ invalid-so _ _ c.in_default.is (sym c.eq.ensures ∙ c.if-eq.false)))
 
-pub returns-then-end-lt17 : goal.returns-then-end-lt17
-returns-then-end-lt17 c = sym (rule_end _ _ _ _ (omega arith))
+pub returns-then-self-lt17 : goal.returns-then-self-lt17
+returns-then-self-lt17 c = sym (rule_end _ _ _ _ (omega arith))
 
-pub returns-then-end-p : goal.returns-then-end-p
-returns-then-end-p c = sym (rule_end _ _ _ _ (omega arith))
+pub returns-then-self-p : goal.returns-then-self-p
+returns-then-self-p c = sym (rule_end _ _ _ _ (omega arith))
 
 pub returns-then-not-key_at : goal.returns-then-not-key_at
 returns-then-not-key_at c = sym (rule_no_key _ _ _ _ (omega arith) (sym c.key_at.ensures ∙ c.if-not-key_at.true))
