@@ -252,10 +252,9 @@ fn before_key(state: &mut [u64; 10], piece: &[u8], label: &mut [u8; 16], out: &m
     requires { is_marked state.old ≡ true }
     ensures { Answers result (feed_of (state_of state.old) piece.now) state.old label.old out.old state.new label.new out.new }
 {
-    let v = begun(state, piece);
-    if v.due == 0 {
+    let Some(v) = begun(state, piece) else {
         return take(state, piece, label, out);
-    }
+    };
     from_key(v, state, piece, label, out);
     0
 }
@@ -265,10 +264,9 @@ fn behind_key(state: &mut [u64; 10], piece: &[u8], label: &mut [u8; 16], out: &m
     requires { is_marked state.old ≡ true }
     ensures { Answers result (feed_of (state_of state.old) piece.now) state.old label.old out.old state.new label.new out.new }
 {
-    let v = waited(state, piece.len());
-    if v.due == 0 {
+    let Some(v) = waited(state, piece.len()) else {
         return take(state, piece, label, out);
-    }
+    };
     within(v, state, piece, label, out);
     0
 }
