@@ -2,7 +2,7 @@
 // (include/brinethimble.h).
 #![tactic(auto)]
 
-ghost use Rattle.std.specs.Prelude.{◌≡◌, take, drop};
+ghost use Rattle.std.specs.Prelude.{◌≡◌};
 ghost use Rattle.host_slots.specs.Slots.{kinds, patterns};
 ghost use Rattle.canon_packs.specs.Camera.{camera_of};
 ghost use Rattle.host_canon.specs.Places.{value_slot, camera_slots};
@@ -38,10 +38,10 @@ fn value_slot(v: Option<Value>) -> Slot
     }
 }
 
-// The first eight.
+// All values of a camera, each at its place.
 #[tactic(auto, unfolding(crate::specs::Places::camera_slots))]
-fn first_eight(c: Camera) -> [Slot; 8]
-    ensures { result ≡ take 8 (camera_slots c) }
+fn camera_slots(c: Camera) -> [Slot; 32]
+    ensures { result ≡ camera_slots c }
 {
     [
         value_slot(c.lens.focal_length),
@@ -52,15 +52,6 @@ fn first_eight(c: Camera) -> [Slot; 8]
         value_slot(c.lens.focal_length_35),
         value_slot(c.lens.set_distortion),
         value_slot(c.lens.lens_value),
-    ]
-}
-
-// The second eight.
-#[tactic(auto, unfolding(crate::specs::Places::camera_slots))]
-fn second_eight(c: Camera) -> [Slot; 8]
-    ensures { result ≡ take 8 (drop 8 (camera_slots c)) }
-{
-    [
         value_slot(c.modes.focus),
         value_slot(c.modes.stabilizer),
         value_slot(c.modes.aperture_mode),
@@ -69,15 +60,6 @@ fn second_eight(c: Camera) -> [Slot; 8]
         value_slot(c.modes.iso),
         value_slot(c.shutter.speed),
         value_slot(c.shutter.mode),
-    ]
-}
-
-// The third eight.
-#[tactic(auto, unfolding(crate::specs::Places::camera_slots))]
-fn third_eight(c: Camera) -> [Slot; 8]
-    ensures { result ≡ take 8 (drop 16 (camera_slots c)) }
-{
-    [
         value_slot(c.shutter.value),
         value_slot(c.balance.mode),
         value_slot(c.balance.preset),
@@ -86,15 +68,6 @@ fn third_eight(c: Camera) -> [Slot; 8]
         value_slot(c.balance.isotemperature),
         value_slot(c.gain.mode),
         value_slot(c.gain.level),
-    ]
-}
-
-// The fourth eight.
-#[tactic(auto, unfolding(crate::specs::Places::camera_slots))]
-fn fourth_eight(c: Camera) -> [Slot; 8]
-    ensures { result ≡ take 8 (drop 24 (camera_slots c)) }
-{
-    [
         value_slot(c.gain.nd_filter),
         value_slot(c.gain.iso_speed),
         value_slot(c.gain.base_iso),
@@ -114,13 +87,6 @@ pub extern "C" fn brine_camera(s: &[u8], kind: &mut [u64; 32], bits: &mut [u64; 
     ensures bits_after { bits.new ≡ patterns (camera_slots (camera_of s.now)) }
 {
     let c = canon_packs::read(s);
-    put(
-        first_eight(c),
-        second_eight(c),
-        third_eight(c),
-        fourth_eight(c),
-        kind,
-        bits,
-    );
+    put(camera_slots(c), kind, bits);
     0
 }

@@ -2,7 +2,7 @@
 // (include/brinethimble.h).
 #![tactic(auto)]
 
-ghost use Rattle.std.specs.Prelude.{◌≡◌, take, drop};
+ghost use Rattle.std.specs.Prelude.{◌≡◌};
 ghost use Rattle.host_slots.specs.Slots.{kinds, patterns};
 ghost use Rattle.descriptor.specs.Descriptor.{descriptor_told};
 ghost use Rattle.host_descriptor.specs.Places.{whole_slot, rate_slot, descriptor_slots, status_of, after};
@@ -30,10 +30,11 @@ fn rate_slot(v: Option<f64>) -> Slot
     }
 }
 
-// The first eight.
-fn first_eight(d: Descriptor) -> [Slot; 8]
-    ensures { result ≡ take 8 (descriptor_slots d) }
+// All items of a descriptor, each at its place.
+fn descriptor_slots(d: Descriptor) -> [Slot; 32]
+    ensures { result ≡ descriptor_slots d }
 {
+    let none = nothing();
     [
         whole_slot(d.duration),
         whole_slot(d.timecode_base),
@@ -43,14 +44,6 @@ fn first_eight(d: Descriptor) -> [Slot; 8]
         whole_slot(d.container_duration),
         whole_slot(d.stored_height),
         whole_slot(d.stored_width),
-    ]
-}
-
-// The second eight.
-fn second_eight(d: Descriptor) -> [Slot; 8]
-    ensures { result ≡ take 8 (drop 8 (descriptor_slots d)) }
-{
-    [
         whole_slot(d.sampled.height),
         whole_slot(d.sampled.width),
         whole_slot(d.sampled.x_offset),
@@ -59,17 +52,16 @@ fn second_eight(d: Descriptor) -> [Slot; 8]
         whole_slot(d.display.width),
         whole_slot(d.display.x_offset),
         whole_slot(d.display.y_offset),
-    ]
-}
-
-// The third eight.
-fn third_eight(d: Descriptor) -> [Slot; 8]
-    ensures { result ≡ take 8 (drop 16 (descriptor_slots d)) }
-{
-    let none = nothing();
-    [
         rate_slot(d.aspect_ratio),
         whole_slot(d.color_range),
+        none,
+        none,
+        none,
+        none,
+        none,
+        none,
+        none,
+        none,
         none,
         none,
         none,
@@ -88,16 +80,7 @@ pub extern "C" fn brine_descriptor(s: &[u8], kind: &mut [u64; 32], bits: &mut [u
 {
     match descriptor::read(s) {
         Ok(d) => {
-            let none = nothing();
-            let rest = [none; 8];
-            put(
-                first_eight(d),
-                second_eight(d),
-                third_eight(d),
-                rest,
-                kind,
-                bits,
-            );
+            put(descriptor_slots(d), kind, bits);
             0
         }
         Err(_) => 4,

@@ -15,7 +15,7 @@ ghost use Rattle.host_fed.specs.Begun.{Begun};
 use fed::reach;
 use fed_states::{close, label_at, open_end, open_limit};
 use host_fed_states::{
-    Value, begun, eight_of, limit_of, marked, put_behind, put_done, put_eight, put_having,
+    Search, Value, begun, eight_of, limit_of, marked, put_behind, put_done, put_eight, put_having,
     put_places, put_rest, put_state, starting, state_of, waited,
 };
 use host_numbers::mark;
@@ -42,20 +42,13 @@ pub extern "C" fn brine_fed_end(end: usize, state: &mut [u64; 10]) -> u32
     0
 }
 
-// Where a search starts: the place of the stream, and how many bytes of the piece were taken before it.
-#[derive(Clone, Copy)]
-pub struct Start {
-    pub at: usize,
-    pub taken: usize,
-}
-
 // Takes the bytes before a search by way of the state: the call's status where it ends there, or where the search starts.
 fn resume(
     state: &mut [u64; 10],
     piece: &[u8],
     label: &mut [u8; 16],
     out: &mut [u64; 8],
-) -> ControlFlow<u32, Start>
+) -> ControlFlow<u32, Search>
     ensures { Begun (state_of state.old) piece.now result state.old label.old out.old state.new label.new out.new }
 {
     let f = match reach(state_of(state), piece) {
@@ -86,7 +79,7 @@ fn resume(
             if taken < piece.len() {
                 let at = st.at + st.have;
                 put_state(st, state);
-                return ControlFlow::Continue(Start { at, taken });
+                return ControlFlow::Continue(Search { at, taken });
             }
             *out = [0, taken as u64, 0, 0, 0, 0, 0, 0];
             put_state(st, state);
@@ -135,16 +128,13 @@ fn begin(
     piece: &[u8],
     label: &mut [u8; 16],
     out: &mut [u64; 8],
-) -> ControlFlow<u32, Start>
+) -> ControlFlow<u32, Search>
     ensures { Begun (state_of state.old) piece.now result state.old label.old out.old state.new label.new out.new }
 {
     if marked(state) {
         let b = starting(state, piece);
         if b.taken < piece.len() {
-            return ControlFlow::Continue(Start {
-                at: b.at,
-                taken: b.taken,
-            });
+            return ControlFlow::Continue(b);
         }
     }
     resume(state, piece, label, out)
@@ -252,10 +242,9 @@ fn before_key(state: &mut [u64; 10], piece: &[u8], label: &mut [u8; 16], out: &m
     requires { is_marked state.old ≡ true }
     ensures { Answers result (feed_of (state_of state.old) piece.now) state.old label.old out.old state.new label.new out.new }
 {
-    let v = begun(state, piece);
-    if v.due == 0 {
+    let Some(v) = begun(state, piece) else {
         return take(state, piece, label, out);
-    }
+    };
     from_key(v, state, piece, label, out);
     0
 }
@@ -265,10 +254,9 @@ fn behind_key(state: &mut [u64; 10], piece: &[u8], label: &mut [u8; 16], out: &m
     requires { is_marked state.old ≡ true }
     ensures { Answers result (feed_of (state_of state.old) piece.now) state.old label.old out.old state.new label.new out.new }
 {
-    let v = waited(state, piece.len());
-    if v.due == 0 {
+    let Some(v) = waited(state, piece.len()) else {
         return take(state, piece, label, out);
-    }
+    };
     within(v, state, piece, label, out);
     0
 }

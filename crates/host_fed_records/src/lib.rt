@@ -208,8 +208,7 @@ fn begin(
     requires most_in_bounds_2 { 16 * most ≤ length labels.old }
     ensures { Begun (state_of state.old) piece.now most result state.old records.old labels.old out.old state.new records.new labels.new out.new }
 {
-    let v = waited(state, piece.len());
-    if v.due != 0 {
+    if let Some(v) = waited(state, piece.len()) {
         return within(v, state, piece, records, labels, most, out);
     }
     let b = starting(state, piece);

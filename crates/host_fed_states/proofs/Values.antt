@@ -1,5 +1,6 @@
 -- What is said of a value that is waited for, or whose key a piece starts with. Assumes nothing.
-use Rattle.std.specs.Prelude.{Err, Ok, Result}
+use Rattle.std.specs.Prelude.{Err, Ok, Result, Some, None, Option}
+use Rattle.std.proofs.lemmas.Option.{none-some, same_Some}
 use Prim.Native.Nat.{ℕ, ◌+◌, ◌-◌, ◌≤◌, ◌<◌}
 use mathlib.Core.Path.{◌≡◌, refl, sym, ap, ◌∙◌}
 use mathlib.Core.Bool.{Bool, true, false, ◌&&◌, and-false}
@@ -29,7 +30,7 @@ use Rattle.fed_bytes.proofs.Filled.{label-none, ber-none, filled_none}
 use Rattle.fed_bytes.proofs.Coming.{counting, comes_waits, comes_record}
 use Rattle.fed.specs.Parts.{having}
 use Rattle.host_fed_states.specs.declared.Value.{Value}
-use Rattle.host_fed_states.specs.Waited.{nowhere, value_of, waited_of, begun_of}
+use Rattle.host_fed_states.specs.Waited.{value_of, waited_of, begun_of}
 
 -- Whether bytes may come
 module _ (live : Bool) (limit at have n : ℕ) where
@@ -50,22 +51,22 @@ whole_length st h e = ap (λ (x : List ℕ). length_at x 0) (take_all (st.have -
 
 -- A value, by the length in front of it
 module _ (limit at have : ℕ) where
-  pub value_none : (e : NoLength) → nowhere ≡ value_of limit at have (Err e)
+  pub value_none : (e : NoLength) → None ≡ value_of limit at have (Err e)
   unfolding value_of
   value_none Cut = refl
   value_none Invalid = refl
 
   module _ (f : Field) where
-    pub value_late : limit < at + 16 + f.size + f.value → nowhere ≡ value_of limit at have (Ok f)
+    pub value_late : limit < at + 16 + f.size + f.value → None ≡ value_of limit at have (Ok f)
     unfolding value_of
     value_late h = rw (lt-leb _ _ h)
 
-    pub value-past : 16 + f.size + f.value ≤ have → nowhere ≡ value_of limit at have (Ok f)
+    pub value-past : 16 + f.size + f.value ≤ have → None ≡ value_of limit at have (Ok f)
     unfolding value_of
     value-past h = rw (le-ltb _ _ h, and-false)
 
     pub value-is : at + 16 + f.size + f.value ≤ limit → have < 16 + f.size + f.value
-        → record { due = 16 + f.size + f.value; next = at + (16 + f.size + f.value); klv = klv 16 at f } ≡ value_of limit at have (Ok f)
+        → Some (record { due = 16 + f.size + f.value; next = at + (16 + f.size + f.value); klv = klv 16 at f }) ≡ value_of limit at have (Ok f)
     unfolding value_of
     value-is h o = rw (le-leb _ _ h, lt-ltb _ _ o)
 
@@ -79,11 +80,11 @@ pub record Due (limit at have : ℕ) (l : Result Field NoLength) (v : Value) : T
   pub next : v.next ≡ at + (16 + f.size + f.value)
   pub klv : v.klv ≡ klv 16 at f
 
-value_due : (limit at have : ℕ) (l : Result Field NoLength) (v : Value) → v ≡ value_of limit at have l → (v.due ≡ 0 → ⊥) → Due limit at have l v
-value_due limit at have l v e o = go l refl
+value_due : (limit at have : ℕ) (l : Result Field NoLength) (v : Value) → Some v ≡ value_of limit at have l → Due limit at have l v
+value_due limit at have l v e = go l refl
   where
-    none : nowhere ≡ value_of limit at have l → Due limit at have l v
-    none x = absurd (o (ap (λ (y : Value). y.due) (e ∙ sym x)))
+    none : None ≡ value_of limit at have l → Due limit at have l v
+    none x = absurd (none-some v (x ∙ sym e))
 
     go : (m : Result Field NoLength) → l ≡ m → Due limit at have l v
     go (Err Cut) x = none (rw x (value_none limit at have Cut))
@@ -91,7 +92,7 @@ value_due limit at have l v e o = go l refl
     go (Ok f) x =
         by_cases (dec_lt limit (at + 16 + f.size + f.value)) (λ h. none (rw x (value_late limit at have f h)))
         (λ h. by_cases (dec_lt have (16 + f.size + f.value))
-        (λ a. let y = e ∙ ap (value_of limit at have) x ∙ sym (value-is limit at have f (omega arith) a) in
+        (λ a. let y = same_Some _ _ (e ∙ ap (value_of limit at have) x ∙ sym (value-is limit at have f (omega arith) a)) in
         record { f = f; is = x; fits = omega arith; less = a; due = ap (λ (z : Value). z.due) y; next = ap (λ (z : Value). z.next) y; klv = ap (λ (z : Value). z.klv) y })
         (λ a. none (rw x (value-past limit at have f (omega arith)))))
 
@@ -100,11 +101,11 @@ module _ (st : State) where
   abbrev pub Comes : ℕ → Bool
   Comes n = st.live && leb (st.at + st.have + n) st.limit
 
-  pub waited_barred : (n : ℕ) → Comes n ≡ false → nowhere ≡ waited_of st n
+  pub waited_barred : (n : ℕ) → Comes n ≡ false → None ≡ waited_of st n
   unfolding waited_of
   waited_barred n e = rw e
 
-  pub waited_few : (n : ℕ) → Comes n ≡ true → st.have < 25 → nowhere ≡ waited_of st n
+  pub waited_few : (n : ℕ) → Comes n ≡ true → st.have < 25 → None ≡ waited_of st n
   unfolding waited_of
   waited_few n m h = rw (m, lt-leb 25 st.have h)
 
@@ -116,15 +117,15 @@ module _ (st : State) where
     abbrev Key : Bool
     Key = leb 25 (length piece) && key_at piece 0
 
-    pub begun_barred : Comes (length piece) ≡ false → nowhere ≡ begun_of st piece
+    pub begun_barred : Comes (length piece) ≡ false → None ≡ begun_of st piece
     unfolding begun_of
     begun_barred e = rw e
 
-    pub begun_late : Comes (length piece) ≡ true → (st.have ≡ 0 → ⊥) → nowhere ≡ begun_of st piece
+    pub begun_late : Comes (length piece) ≡ true → (st.have ≡ 0 → ⊥) → None ≡ begun_of st piece
     unfolding begun_of
     begun_late m h = rw (m, ne_eqb _ _ h)
 
-    pub begun-none : Comes (length piece) ≡ true → Key ≡ false → nowhere ≡ begun_of st piece
+    pub begun-none : Comes (length piece) ≡ true → Key ≡ false → None ≡ begun_of st piece
     unfolding begun_of
     begun-none m k = rw (m, k, and-false)
 
@@ -145,15 +146,15 @@ pub record Tells (st : State) (n : ℕ) (v : Value) : Type 0 where
   pub klv : v.klv ≡ klv 16 st.at f
   pub less : st.have < 16 + f.size + f.value
 
-pub waited_tells : (st : State) (n : ℕ) (v : Value) → v ≡ waited_of st n → (v.due ≡ 0 → ⊥) → Tells st n v
-waited_tells st n v e o = go (Comes st n) refl
+pub waited_tells : (st : State) (n : ℕ) (v : Value) → Some v ≡ waited_of st n → Tells st n v
+waited_tells st n v e = go (Comes st n) refl
   where
-    none : nowhere ≡ waited_of st n → Tells st n v
-    none x = absurd (o (ap (λ (y : Value). y.due) (e ∙ sym x)))
+    none : None ≡ waited_of st n → Tells st n v
+    none x = absurd (none-some v (x ∙ sym e))
 
     is : (m : Comes st n ≡ true) → 25 ≤ st.have → Tells st n v
     is m k =
-        let d = value_due st.limit st.at st.have (length_of st) v (e ∙ sym (waited_value st n m k)) o in
+        let d = value_due st.limit st.at st.have (length_of st) v (e ∙ sym (waited_value st n m k)) in
         record {
           f = d.f;
           alive = and_left st.live _ m;
@@ -185,15 +186,15 @@ pub record Begins (st : State) (piece : List ℕ) (v : Value) : Type 0 where
   pub next : v.next ≡ st.at + (16 + f.size + f.value)
   pub klv : v.klv ≡ klv 16 st.at f
 
-pub begun-tells : (st : State) (piece : List ℕ) (v : Value) → v ≡ begun_of st piece → (v.due ≡ 0 → ⊥) → Begins st piece v
-begun-tells st piece v e o = go (Comes st (length piece)) refl
+pub begun-tells : (st : State) (piece : List ℕ) (v : Value) → Some v ≡ begun_of st piece → Begins st piece v
+begun-tells st piece v e = go (Comes st (length piece)) refl
   where
-    none : nowhere ≡ begun_of st piece → Begins st piece v
-    none x = absurd (o (ap (λ (y : Value). y.due) (e ∙ sym x)))
+    none : None ≡ begun_of st piece → Begins st piece v
+    none x = absurd (none-some v (x ∙ sym e))
 
     is : (m : Comes st (length piece) ≡ true) → st.have ≡ 0 → (k : Key st piece ≡ true) → Begins st piece v
     is m h k =
-        let d = value_due st.limit st.at st.have (length_at piece 16) v (e ∙ sym (begun-value st piece m h k)) o in
+        let d = value_due st.limit st.at st.have (length_at piece 16) v (e ∙ sym (begun-value st piece m h k)) in
         let y : st.at + st.have + length piece ≤ st.limit = leb-true _ _ (and_right st.live _ m) in
         record {
           f = d.f;

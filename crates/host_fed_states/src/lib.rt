@@ -10,7 +10,7 @@ ghost use Rattle.lengths.specs.Length.{length_at};
 ghost use Rattle.fed_states.specs.State.{sought, gone_on, whole_label};
 ghost use Rattle.fed.specs.Parts.{having, rest_of};
 ghost use Rattle.host_fed_states.specs.Places.{flag, is_marked, bytes_of, eight_put, eight_of, state_of, state_places, places_of, places_in, flags_put, start_of, seeking_of, key_places};
-ghost use Rattle.host_fed_states.specs.Waited.{nowhere, value_of, waited_of, begun_of};
+ghost use Rattle.host_fed_states.specs.Waited.{value_of, waited_of, begun_of};
 
 use fed::{rest, searches};
 use fed_states::State;
@@ -162,30 +162,12 @@ pub fn starting(s: &[u64; 10], piece: &[u8]) -> Search
     Search { at: 0, taken }
 }
 
-// A value that is waited for: with how many bytes from its key on it is whole, 0 where there is none; the record that it is then, and
-// its end.
+// A value that is waited for: with how many bytes from its key on it is whole, its end, and the record that it is then.
 #[derive(Clone, Copy)]
 pub struct Value {
     pub due: usize,
     pub next: usize,
     pub klv: Klv,
-}
-
-// No value.
-fn nowhere() -> Value
-    ensures { result ≡ nowhere }
-{
-    Value {
-        due: 0,
-        next: 0,
-        klv: Klv {
-            at: 0,
-            value: 0,
-            len: 0,
-            size: 0,
-            shortest: false,
-        },
-    }
 }
 
 // Whether a walk is open, and so many bytes behind those that have come are within its limit.
@@ -206,26 +188,26 @@ fn may(live: bool, limit: usize, at: usize, have: usize, n: usize) -> bool
 }
 
 // The value behind a key at a place, of which so many bytes have come, by the nine bytes behind its label.
-fn value_of(limit: usize, at: usize, have: usize, lead: u64, eight: u64) -> Value
+fn value_of(limit: usize, at: usize, have: usize, lead: u64, eight: u64) -> Option<Value>
     requires { at + 25 ≤ limit }
     ensures { result ≡ value_of limit at have (length_at (bytes_of 1 lead ++ bytes_of 8 eight) 0) }
 {
     let l = length_of(lead, eight);
     let Ok(f) = l else {
-        return nowhere();
+        return None;
     };
     let behind = 16 + f.size;
     let value = at + behind;
     if ((limit - value) as u64) < f.value {
-        return nowhere();
+        return None;
     }
     let len = f.value as usize;
     let due = behind + len;
     if due <= have {
-        return nowhere();
+        return None;
     }
     let next = value + len;
-    Value {
+    Some(Value {
         due,
         next,
         klv: Klv {
@@ -235,11 +217,11 @@ fn value_of(limit: usize, at: usize, have: usize, lead: u64, eight: u64) -> Valu
             size: f.size,
             shortest: f.shortest,
         },
-    }
+    })
 }
 
 // The value that is waited for, where all that is kept of its key has come and n bytes may come.
-pub fn waited(s: &[u64; 10], n: usize) -> Value
+pub fn waited(s: &[u64; 10], n: usize) -> Option<Value>
     ensures { result ≡ waited_of (state_of s.now) n }
 {
     let live = flag(s[2]);
@@ -247,16 +229,16 @@ pub fn waited(s: &[u64; 10], n: usize) -> Value
     let at = s[3] as usize;
     let have = s[4] as usize;
     if !may(live, limit, at, have, n) {
-        return nowhere();
+        return None;
     }
     if have < 25 {
-        return nowhere();
+        return None;
     }
     value_of(limit, at, have, s[8], s[9])
 }
 
 // The value of a key that a piece starts with, where no byte of one has come and all that is kept of it is there.
-pub fn begun(s: &[u64; 10], piece: &[u8]) -> Value
+pub fn begun(s: &[u64; 10], piece: &[u8]) -> Option<Value>
     ensures { result ≡ begun_of (state_of s.now) piece.now }
 {
     let live = flag(s[2]);
@@ -264,13 +246,13 @@ pub fn begun(s: &[u64; 10], piece: &[u8]) -> Value
     let at = s[3] as usize;
     let have = s[4] as usize;
     if !may(live, limit, at, have, piece.len()) {
-        return nowhere();
+        return None;
     }
     if have != 0 {
-        return nowhere();
+        return None;
     }
     if !whole_key(piece, 0, piece.len()) {
-        return nowhere();
+        return None;
     }
     let lead = u64::from(piece[16]);
     let eight = eight_at(piece, 17);

@@ -1,7 +1,7 @@
 // The values of a frame at their places of a host's two arrays: include/brinethimble.h, BRINE_FRAME_*.
 #![tactic(auto)]
 
-ghost use Rattle.std.specs.Prelude.{◌≡◌, take, drop};
+ghost use Rattle.std.specs.Prelude.{◌≡◌};
 ghost use Rattle.host_slots.specs.Slots.{whole, kinds, patterns};
 ghost use Rattle.host_frame_places.specs.Places.{of_distance, of_t_stop, frame_slots, value_slots};
 
@@ -35,54 +35,43 @@ fn whole(n: u64) -> Slot
     of_kind(WHOLE, n)
 }
 
-// The first eight.
-fn first_eight(f: Frame) -> [Slot; 8]
-    ensures { result ≡ take 8 (frame_slots f) }
-{
-    [
-        f.focal_length.map_or(nothing(), single),
-        f.focus_distance.map_or(nothing(), of_distance),
-        f.t_stop.map_or(nothing(), of_t_stop),
-        f.exposure_time.map_or(nothing(), double),
-        f.shutter_angle.map_or(nothing(), single),
-        f.tilt_roll.map_or(nothing(), |a| single(a.tilt)),
-        f.tilt_roll.map_or(nothing(), |a| single(a.roll)),
-        f.exposure_index.map_or(nothing(), |n| whole(u64::from(n))),
-    ]
-}
-
-// The second eight.
-fn second_eight(f: Frame) -> [Slot; 8]
-    ensures { result ≡ take 8 (drop 8 (frame_slots f)) }
-{
-    let e = f.encoders;
-    [
-        f.white_balance.map_or(nothing(), |n| whole(u64::from(n))),
-        f.nd_density.map_or(nothing(), double),
-        f.effective_focal_length.map_or(nothing(), double),
-        f.white_balance_factors.map_or(nothing(), |k| double(k.red)),
-        f.white_balance_factors
-            .map_or(nothing(), |k| double(k.green)),
-        f.white_balance_factors
-            .map_or(nothing(), |k| double(k.blue)),
-        e.focus_lds.map_or(nothing(), whole),
-        e.focus_motor.map_or(nothing(), whole),
-    ]
-}
-
-// The third eight.
-fn third_eight(f: Frame) -> [Slot; 8]
-    ensures { result ≡ take 8 (drop 16 (frame_slots f)) }
+// All values of a frame, each at its place.
+fn frame_slots(f: Frame) -> [Slot; 32]
+    ensures { result ≡ frame_slots f }
 {
     let e = f.encoders;
     let none = nothing();
     [
+        f.focal_length.map_or(none, single),
+        f.focus_distance.map_or(none, of_distance),
+        f.t_stop.map_or(none, of_t_stop),
+        f.exposure_time.map_or(none, double),
+        f.shutter_angle.map_or(none, single),
+        f.tilt_roll.map_or(none, |a| single(a.tilt)),
+        f.tilt_roll.map_or(none, |a| single(a.roll)),
+        f.exposure_index.map_or(none, |n| whole(u64::from(n))),
+        f.white_balance.map_or(none, |n| whole(u64::from(n))),
+        f.nd_density.map_or(none, double),
+        f.effective_focal_length.map_or(none, double),
+        f.white_balance_factors.map_or(none, |k| double(k.red)),
+        f.white_balance_factors.map_or(none, |k| double(k.green)),
+        f.white_balance_factors.map_or(none, |k| double(k.blue)),
+        e.focus_lds.map_or(none, whole),
+        e.focus_motor.map_or(none, whole),
         e.zoom_lds.map_or(none, whole),
         e.zoom_motor.map_or(none, whole),
         e.iris_lds.map_or(none, whole),
         e.iris_motor.map_or(none, whole),
         f.tint.map_or(none, double),
         f.sensor_rate.map_or(none, double),
+        none,
+        none,
+        none,
+        none,
+        none,
+        none,
+        none,
+        none,
         none,
         none,
     ]
@@ -93,16 +82,7 @@ pub fn put_frame(f: Frame, kind: &mut [u64; 32], bits: &mut [u64; 32])
     ensures kind_after { kind.new ≡ kinds (frame_slots f) }
     ensures bits_after { bits.new ≡ patterns (frame_slots f) }
 {
-    let none = nothing();
-    let rest = [none; 8];
-    put(
-        first_eight(f),
-        second_eight(f),
-        third_eight(f),
-        rest,
-        kind,
-        bits,
-    );
+    put(frame_slots(f), kind, bits);
 }
 
 // Puts the values of a frame that may have none.

@@ -1,8 +1,7 @@
 -- A value as a host's two arrays have it, its kind in one and its 64 bits in the other: include/brinethimble.h, BRINE_KIND_*.
-use Rattle.std.specs.Prelude.{ℕ, ◌≡◌, Bool, List, map, ◌++◌, ℤ, Float, take, replicate}
+use Rattle.std.specs.Prelude.{ℕ, Bool, List, map, ◌++◌, ℤ, Float, take, replicate}
 use Rattle.std.specs.Float.{binary32, binary64}
 use Rattle.std.specs.Float.Ieee.{to_bits}
-use Rattle.std.proofs.lemmas.List.Edits.{sets}
 use Rattle.host_numbers.specs.Numbers.{twos, mark}
 use Rattle.host_slots.specs.declared.Slot.{Slot}
 
@@ -68,8 +67,3 @@ kinds = map (λ (s : Slot). s.kind)
 
 abbrev pub patterns : List Slot → List ℕ
 patterns = map (λ (s : Slot). s.bits)
-
--- the two arrays after values were put from a place on
-pub record Put (xs : List Slot) (at : ℕ) (k b k' b' : List ℕ) : Type 0 where
-  pub kinds : k' ≡ sets k at (kinds xs)
-  pub bits : b' ≡ sets b at (patterns xs)

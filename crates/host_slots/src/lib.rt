@@ -1,9 +1,9 @@
 // A value as a host's two arrays have it, its kind in one and its 64 bits in the other: include/brinethimble.h. Every list of
-// values has the same 32 places, filled eight at a time.
+// values has the same 32 places.
 #![tactic(auto)]
 
-ghost use Rattle.std.specs.Prelude.{◌≡◌, ◌+◌, ◌≤◌, ◌++◌};
-ghost use Rattle.host_slots.specs.Slots.{slot, nothing, single, double, kinds, patterns, Put};
+ghost use Rattle.std.specs.Prelude.{◌≡◌};
+ghost use Rattle.host_slots.specs.Slots.{slot, nothing, single, double, kinds, patterns};
 
 // The kinds: BRINE_KIND_*.
 pub const NOTHING: u64 = 0;
@@ -71,35 +71,11 @@ pub fn double(x: f64) -> Slot
     of_kind(F64, floats::f64_bits(x))
 }
 
-// Puts eight values from a place on.
-fn put_eight(a: [Slot; 8], at: usize, kind: &mut [u64; 32], bits: &mut [u64; 32])
-    requires { at + 8 ≤ 32 }
-    ensures { Put a at kind.old bits.old kind.new bits.new }
-{
-    for i in 0..8 {
-        let s = a[i];
-        let place = at + i;
-        kind[place] = s.kind;
-        bits[place] = s.bits;
-    }
-}
-
 // Puts the values of all places.
-pub fn put(
-    a: [Slot; 8],
-    b: [Slot; 8],
-    c: [Slot; 8],
-    d: [Slot; 8],
-    kind: &mut [u64; 32],
-    bits: &mut [u64; 32],
-)
-    ensures kind_after { kind.new ≡ kinds (a ++ b ++ c ++ d) }
-    ensures bits_after { bits.new ≡ patterns (a ++ b ++ c ++ d) }
+pub fn put(slots: [Slot; 32], kind: &mut [u64; 32], bits: &mut [u64; 32])
+    ensures kind_after { kind.new ≡ kinds slots }
+    ensures bits_after { bits.new ≡ patterns slots }
 {
-    *kind = [0; 32];
-    *bits = [0; 32];
-    put_eight(a, 0, kind, bits);
-    put_eight(b, 8, kind, bits);
-    put_eight(c, 16, kind, bits);
-    put_eight(d, 24, kind, bits);
+    *kind = slots.map(|s| s.kind);
+    *bits = slots.map(|s| s.bits);
 }

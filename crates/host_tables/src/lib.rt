@@ -13,7 +13,7 @@ ghost use Rattle.canon_sequence.specs.Sequence.{sequence_of};
 ghost use Rattle.canon_sets.specs.Package.{values_from};
 ghost use Rattle.canon_sets.specs.Told.{first_of};
 ghost use Rattle.host_tables.specs.Places.{header_places, start_places, block_places, payload_places, line_places, package_places};
-ghost use Rattle.host_tables.specs.Sequence.{spot_of, position_found, position_figure, sequence_places, position_places};
+ghost use Rattle.host_tables.specs.Sequence.{identifier_places, position_found, position_figure, sequence_places, position_places};
 
 use canon_sets::Package;
 use klv::Klv;
@@ -148,30 +148,14 @@ pub extern "C" fn brine_package(s: &[u8], from: usize, end: usize, out: &mut [u6
     0
 }
 
-// Where an identifier is.
-#[derive(Clone, Copy)]
-pub struct Spot {
-    pub found: u64,
-    pub at: u64,
-    pub len: u64,
-}
-
-// Where an identifier's bytes are, if it is there.
-#[tactic(auto, unfolding(crate::specs::Sequence::spot_of))]
-fn spot_of(i: Option<Klv>) -> Spot
-    ensures { result ≡ spot_of i }
+// Whether an identifier is there, and the place and length of its bytes.
+#[tactic(auto, unfolding(crate::specs::Sequence::identifier_places))]
+fn identifier_places(i: Option<Klv>) -> [u64; 3]
+    ensures { result ≡ identifier_places i }
 {
     match i {
-        Some(k) => Spot {
-            found: 1,
-            at: k.value as u64,
-            len: k.len as u64,
-        },
-        None => Spot {
-            found: 0,
-            at: 0,
-            len: 0,
-        },
+        Some(k) => [1, k.value as u64, k.len as u64],
+        None => [0, 0, 0],
     }
 }
 
@@ -199,17 +183,17 @@ pub extern "C" fn brine_sequence(s: &[u8], out: &mut [u64; 8], positions: &mut [
     ensures positions_after { positions.new ≡ position_places (sequence_of s.now) }
 {
     let q = canon_sequence::read(s);
-    let instance = spot_of(q.instance_uid);
-    let package = spot_of(q.package_uid);
+    let instance = identifier_places(q.instance_uid);
+    let package = identifier_places(q.package_uid);
     let timecode_found = position_found(q.start_timecode);
     let position_found = position_found(q.start_position);
     *out = [
-        instance.found,
-        instance.at,
-        instance.len,
-        package.found,
-        package.at,
-        package.len,
+        instance[0],
+        instance[1],
+        instance[2],
+        package[0],
+        package[1],
+        package[2],
         timecode_found,
         position_found,
     ];

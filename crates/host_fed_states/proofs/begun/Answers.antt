@@ -20,25 +20,25 @@ may-is : (c : goal.After-may) → c.may.result ≡ Comes (state_of c.args.s.now)
 may-is c = rw (c.flag-live.ensures, c.limit_of-limit.ensures) at c.may.ensures
 
 comes : (c : goal.Else-not-may) → Comes (state_of c.args.s.now) (length c.args.piece.now) ≡ true
-comes c = sym (let h : c.may.result ≡ Comes (state_of c.args.s.now) (length c.args.piece.now) = rw (c.flag-live.ensures, c.limit_of-limit.ensures) at c.may.ensures in h) ∙ c.if-not-may.false
+comes c = rw (c.flag-live.ensures, c.limit_of-limit.ensures) at (sym c.may.ensures ∙ c.if-not-may.false)
 
 fits : (c : goal.Else-not-may) → (state_of c.args.s.now).at + (state_of c.args.s.now).have + length c.args.piece.now ≤ (state_of c.args.s.now).limit
-fits c = leb-true _ _ (and_right (state_of c.args.s.now).live _ (let h : Comes (state_of c.args.s.now) (length c.args.piece.now) ≡ true = sym (let h : c.may.result ≡ Comes (state_of c.args.s.now) (length c.args.piece.now) = rw (c.flag-live.ensures, c.limit_of-limit.ensures) at c.may.ensures in h) ∙ c.if-not-may.false in h))
+fits c = leb-true _ _ (and_right (state_of c.args.s.now).live _ (comes c))
 
 pub returns-then-not-may : goal.returns-then-not-may
-returns-then-not-may c = c.nowhere.ensures ∙ begun_barred _ _ (sym (may-is (goal.at.returns-then-not-may c).After-may) ∙ c.if-not-may.true)
+returns-then-not-may c = begun_barred _ _ (sym (may-is (goal.at.returns-then-not-may c).After-may) ∙ c.if-not-may.true)
 
 pub returns-then-have-ne0 : goal.returns-then-have-ne0
-returns-then-have-ne0 c = c.nowhere-then-have-ne0.ensures ∙ begun_late _ _ (comes (goal.at.returns-then-have-ne0 c).Else-not-may) c.if-have-ne0.true
+returns-then-have-ne0 c = begun_late _ _ (comes (goal.at.returns-then-have-ne0 c).Else-not-may) c.if-have-ne0.true
 
 pub returns-then-not-whole_key : goal.returns-then-not-whole_key
-returns-then-not-whole_key c = c.nowhere-then-not-whole_key.ensures ∙ begun-none _ _ (comes (goal.at.returns-then-not-whole_key c).Else-not-may) (sym c.whole_key.ensures ∙ c.if-not-whole_key.true)
+returns-then-not-whole_key c = begun-none _ _ (comes (goal.at.returns-then-not-whole_key c).Else-not-may) (sym c.whole_key.ensures ∙ c.if-not-whole_key.true)
 
 key : (c : goal.Else-not-whole_key) → leb 25 (length c.args.piece.now) && key_at c.args.piece.now 0 ≡ true
 key c = sym c.whole_key.ensures ∙ c.if-not-whole_key.false
 
 many : (c : goal.Else-not-whole_key) → 25 ≤ length c.args.piece.now
-many c = leb-true _ _ (and_left (leb 25 (length c.args.piece.now)) _ (let h : leb 25 (length c.args.piece.now) && key_at c.args.piece.now 0 ≡ true = sym c.whole_key.ensures ∙ c.if-not-whole_key.false in h))
+many c = leb-true _ _ (and_left (leb 25 (length c.args.piece.now)) _ (key c))
 
 bytes : (c : goal.After-may) → Bytes c.args.piece.now
 bytes c = λ j. (c.type_inv.piece j).fits

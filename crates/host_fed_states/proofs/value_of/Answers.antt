@@ -1,6 +1,6 @@
 -- `host_fed_states::value_of` meets its contract: a law for each return.
-use Rattle.std.specs.Prelude.{Ok, Result}
-use Prim.Native.Nat.{◌+◌, ◌≤◌, ◌<◌, ◌^◌}
+use Rattle.std.specs.Prelude.{Ok, Result, Option}
+use Prim.Native.Nat.{ℕ, ◌+◌, ◌≤◌, ◌<◌, ◌^◌}
 use mathlib.Core.Path.{◌≡◌, sym, ap, ◌∙◌}
 use mathlib.Core.List.{◌++◌}
 use native.Mathlib.Omega.{arith}
@@ -10,7 +10,7 @@ use Rattle.lengths.specs.Length.{length_at}
 use Rattle.lengths.proofs.Laws.{Taken, taken}
 use Rattle.host_fed_states.specs.declared.Value.{Value}
 use Rattle.host_fed_states.specs.Places.{bytes_of}
-use Rattle.host_fed_states.specs.Waited.{nowhere, value_of}
+use Rattle.host_fed_states.specs.Waited.{value_of}
 use Rattle.host_fed_states.proofs.Values.{value_none, value_late, value-past, value-is}
 use borrow.Author.Rules.{rules}
 use Rattle.host_fed_states.proofs.value_of.Goals as goal
@@ -20,23 +20,27 @@ is-so : (c : goal.In-Ok) → length_at (bytes_of 1 c.args.lead ++ bytes_of 8 c.a
 is-so c = sym c.length_of-l.ensures ∙ c.in-Ok.is
 
 is-taken : (c : goal.In-Ok) → Taken (bytes_of 1 c.args.lead ++ bytes_of 8 c.args.eight) 0 c.in-Ok.f.size
-is-taken c = taken _ 0 _ (let h : length_at (bytes_of 1 c.args.lead ++ bytes_of 8 c.args.eight) 0 ≡ Ok c.in-Ok.f = sym c.length_of-l.ensures ∙ c.in-Ok.is in h)
+is-taken c = taken _ 0 _ (is-so c)
+
+-- a length's field is within what is kept of a key
+field_fits : (limit at lead eight : ℕ) (f : Field) → at + 25 ≤ limit → length_at (bytes_of 1 lead ++ bytes_of 8 eight) 0 ≡ Ok f → at + 16 + f.size ≤ limit
+field_fits limit at lead eight f h e = omega (arith, h, (taken _ 0 _ e).most)
 
 starts : (c : goal.In-Ok) → c.args.at + 16 + c.in-Ok.f.size ≤ c.args.limit
-starts c = omega (arith, (let h : Taken (bytes_of 1 c.args.lead ++ bytes_of 8 c.args.eight) 0 c.in-Ok.f.size = taken _ 0 _ (let h : length_at (bytes_of 1 c.args.lead ++ bytes_of 8 c.args.eight) 0 ≡ Ok c.in-Ok.f = sym c.length_of-l.ensures ∙ c.in-Ok.is in h) in h).most, c.requires)
+starts c = field_fits _ _ _ _ _ c.requires (is-so c)
 
 limit-fits : (c : goal.Start) → c.args.limit < 2 ^ 64
 limit-fits c = search rules
 
 -- what the rules say of it
-says : (c : goal.In-Ok) (v : Value) → v ≡ value_of c.args.limit c.args.at c.args.have (Ok c.in-Ok.f)
+says : (c : goal.In-Ok) (v : Option Value) → v ≡ value_of c.args.limit c.args.at c.args.have (Ok c.in-Ok.f)
     → v ≡ value_of c.args.limit c.args.at c.args.have (length_at (bytes_of 1 c.args.lead ++ bytes_of 8 c.args.eight) 0)
-says c v e = e ∙ ap (λ (l : Result Field NoLength). value_of c.args.limit c.args.at c.args.have l) (sym (let h : length_at (bytes_of 1 c.args.lead ++ bytes_of 8 c.args.eight) 0 ≡ Ok c.in-Ok.f = sym c.length_of-l.ensures ∙ c.in-Ok.is in h))
+says c v e = e ∙ ap (λ (l : Result Field NoLength). value_of c.args.limit c.args.at c.args.have l) (sym (is-so c))
 
 pub returns-in_default : goal.returns-in_default
 returns-in_default c =
     let a = c.args in
-    c.nowhere.ensures ∙ value_none a.limit a.at a.have c.in_default.field-0 ∙ ap (λ (l : Result Field NoLength). value_of a.limit a.at a.have l) (sym c.in_default.is ∙ c.length_of-l.ensures)
+    value_none a.limit a.at a.have c.in_default.field-0 ∙ ap (λ (l : Result Field NoLength). value_of a.limit a.at a.have l) (sym c.in_default.is ∙ c.length_of-l.ensures)
 
 pub overflow_add-behind : goal.overflow_add-behind
 overflow_add-behind c = omega (arith, (is-taken (goal.at.overflow_add-behind c).In-Ok).most)
@@ -48,17 +52,17 @@ pub overflow_sub-limit : goal.overflow_sub-limit
 overflow_sub-limit c = omega (arith, starts (goal.at.overflow_sub-limit c).In-Ok)
 
 within : (c : goal.Else-limit-value) → c.args.at + 16 + c.in-Ok.f.size + c.in-Ok.f.value ≤ c.args.limit
-within c = omega (arith, c.if-limit-value.false, (let h : c.args.at + 16 + c.in-Ok.f.size ≤ c.args.limit = omega (arith, (let h : Taken (bytes_of 1 c.args.lead ++ bytes_of 8 c.args.eight) 0 c.in-Ok.f.size = taken _ 0 _ (let h : length_at (bytes_of 1 c.args.lead ++ bytes_of 8 c.args.eight) 0 ≡ Ok c.in-Ok.f = sym c.length_of-l.ensures ∙ c.in-Ok.is in h) in h).most, c.requires) in h))
+within c = omega (arith, c.if-limit-value.false, field_fits _ _ _ _ _ c.requires (sym c.length_of-l.ensures ∙ c.in-Ok.is))
 
 pub returns-then-limit-value : goal.returns-then-limit-value
 returns-then-limit-value c =
-    says (goal.at.returns-then-limit-value c).In-Ok _ (c.nowhere-then-limit-value.ensures ∙ value_late _ _ _ _ (omega (arith, c.if-limit-value.true, starts (goal.at.returns-then-limit-value c).In-Ok)))
+    says (goal.at.returns-then-limit-value c).In-Ok _ (value_late _ _ _ _ (omega (arith, c.if-limit-value.true, starts (goal.at.returns-then-limit-value c).In-Ok)))
 
 pub overflow_add-due : goal.overflow_add-due
 overflow_add-due c = omega (arith, within (goal.at.overflow_add-due c).Else-limit-value, limit-fits (goal.at.overflow_add-due c).Start)
 
 pub returns-then-due-have : goal.returns-then-due-have
-returns-then-due-have c = says (goal.at.returns-then-due-have c).In-Ok _ (c.nowhere-then-due-have.ensures ∙ value-past _ _ _ _ (omega (arith, c.if-due-have.true)))
+returns-then-due-have c = says (goal.at.returns-then-due-have c).In-Ok _ (value-past _ _ _ _ (omega (arith, c.if-due-have.true)))
 
 pub overflow_add-next : goal.overflow_add-next
 overflow_add-next c = omega (arith, within (goal.at.overflow_add-next c).Else-limit-value, limit-fits (goal.at.overflow_add-next c).Start)

@@ -16,16 +16,16 @@ may-is : (c : goal.After-may) → c.may.result ≡ Comes (state_of c.args.s.now)
 may-is c = rw (c.flag-live.ensures, c.limit_of-limit.ensures) at c.may.ensures
 
 comes : (c : goal.Else-not-may) → Comes (state_of c.args.s.now) c.args.n ≡ true
-comes c = sym (let h : c.may.result ≡ Comes (state_of c.args.s.now) c.args.n = rw (c.flag-live.ensures, c.limit_of-limit.ensures) at c.may.ensures in h) ∙ c.if-not-may.false
+comes c = rw (c.flag-live.ensures, c.limit_of-limit.ensures) at (sym c.may.ensures ∙ c.if-not-may.false)
 
 fits : (c : goal.Else-not-may) → (state_of c.args.s.now).at + (state_of c.args.s.now).have + c.args.n ≤ (state_of c.args.s.now).limit
-fits c = leb-true _ _ (and_right (state_of c.args.s.now).live _ (let h : Comes (state_of c.args.s.now) c.args.n ≡ true = sym (let h : c.may.result ≡ Comes (state_of c.args.s.now) c.args.n = rw (c.flag-live.ensures, c.limit_of-limit.ensures) at c.may.ensures in h) ∙ c.if-not-may.false in h))
+fits c = leb-true _ _ (and_right (state_of c.args.s.now).live _ (comes c))
 
 pub returns-then-not-may : goal.returns-then-not-may
-returns-then-not-may c = c.nowhere.ensures ∙ waited_barred _ _ (sym (may-is (goal.at.returns-then-not-may c).After-may) ∙ c.if-not-may.true)
+returns-then-not-may c = waited_barred _ _ (sym (may-is (goal.at.returns-then-not-may c).After-may) ∙ c.if-not-may.true)
 
 pub returns-then-have-lt25 : goal.returns-then-have-lt25
-returns-then-have-lt25 c = c.nowhere-then-have-lt25.ensures ∙ waited_few _ _ (comes (goal.at.returns-then-have-lt25 c).Else-not-may) c.if-have-lt25.true
+returns-then-have-lt25 c = waited_few _ _ (comes (goal.at.returns-then-have-lt25 c).Else-not-may) c.if-have-lt25.true
 
 kept : (c : goal.Else-have-lt25) → 25 ≤ (state_of c.args.s.now).have
 kept c = omega (arith, c.if-have-lt25.false)

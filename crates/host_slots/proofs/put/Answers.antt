@@ -1,20 +1,30 @@
--- `host_slots::put` puts four times eight values, as many as the arrays have places.
-use mathlib.Core.Path.{◌≡◌}
+-- `host_slots::put` puts the kinds in one array and the bits in the other.
+use mathlib.Core.Path.{◌≡◌, refl, sym, ◌∙◌}
 use native.Mathlib.Omega.{arith}
-use lib.ListN.{length, length-append}
+use lib.ListN.{length, length-map, get_or}
 use borrow.Author.Rules.{rules}
-use Rattle.host_slots.proofs.Putting.{then, all}
+use Rattle.std.proofs.lemmas.List.{ext_get_or, get_or-map}
+use Rattle.host_slots.specs.declared.Slot.{Slot}
+use Rattle.host_slots.specs.Slots.{nothing}
 use Rattle.host_slots.proofs.put.Goals as goal
-use Rattle.host_slots.proofs.put.Goals.{Start}
 
-values : (c : goal.Start) → (length c.args.a ≡ 8) × (length c.args.b ≡ 8) × (length c.args.c ≡ 8) × (length c.args.d ≡ 8)
-values c = (search rules, search rules, search rules, search rules)
+long : (c : goal.After-map-2) → length c.args.slots ≡ 32
+long c = search rules
 
-pub returns : goal.returns
-returns c =
-    let all = let eights = values (goal.at.returns c).Start in
-    let two = then c.put_eight.ensures c.put_eight-2.ensures (omega arith) in
-    let three = then two c.put_eight-3.ensures (simp length-append (omega arith)) in
-    let four = then three c.put_eight-4.ensures (simp length-append (omega arith)) in
-    all four (simp length-append (omega arith)) (simp length-append (omega arith)) in
-    record { kind_after = all.0; bits_after = all.1 }
+pub returns-clause-kind_after : goal.returns-clause-kind_after
+returns-clause-kind_after c =
+    let m = c.map.ensures.items in
+    let f = λ (s : Slot). s.kind in
+    ext_get_or 0 _ _ (m.long ∙ sym (long c) ∙ sym (length-map c.args.slots f)) (λ i h.
+    let a = m.at i nothing 0 (omega arith) in
+    let e : get_or c.map.result i 0 ≡ (get_or c.args.slots i nothing).kind = search rules in
+    e ∙ sym (get_or-map f c.args.slots i nothing 0 (omega (arith, long c, m.long))))
+
+pub returns-clause-bits_after : goal.returns-clause-bits_after
+returns-clause-bits_after c =
+    let m = c.map-2.ensures.items in
+    let f = λ (s : Slot). s.bits in
+    ext_get_or 0 _ _ (m.long ∙ sym (long c) ∙ sym (length-map c.args.slots f)) (λ i h.
+    let a = m.at i nothing 0 (omega arith) in
+    let e : get_or c.map-2.result i 0 ≡ (get_or c.args.slots i nothing).bits = search rules in
+    e ∙ sym (get_or-map f c.args.slots i nothing 0 (omega (arith, long c, m.long))))
