@@ -60,23 +60,25 @@ fn asked(rt: &impl Env) -> Option<Task> {
 // The room for the lines of 65,536 bytes.
 const ROOM: usize = 458752;
 
-// How many bytes to ask for: no more than the state may still take, so that what is listed depends on the bytes and not on how
-// they come. Where it may take none, one more would be refused; a walk that was wound back asks for none.
-fn wanted(st: State, wound: bool) -> usize
-    ensures { result ≤ 65536 }
-{
-    let left = st.limit.saturating_sub(st.at).saturating_sub(st.have);
-    if left == 0 {
-        return if wound { 0 } else { 1 };
-    }
-    left.min(65536)
-}
-
-// A walk as it goes: its state, and the records so far.
+// A walk as it goes: its state, the records so far, and whether it was wound back.
 #[derive(Clone, Copy)]
 struct Walk {
     state: State,
     records: usize,
+    wound: bool,
+}
+
+// How many bytes to ask for: no more than the state may still take, so that what is listed depends on the bytes and not on how
+// they come. Where it may take none, one more would be refused; a walk that was wound back asks for none.
+fn wanted(w: Walk) -> usize
+    ensures { result ≤ 65536 }
+{
+    let st = w.state;
+    let left = st.limit.saturating_sub(st.at).saturating_sub(st.have);
+    if left == 0 {
+        return if w.wound { 0 } else { 1 };
+    }
+    left.min(65536)
 }
 
 // Why a walk goes no further.
@@ -111,10 +113,8 @@ fn show(rt: &HostRuntime, w: &mut Walk, piece: &[u8], out: &mut [u8; ROOM]) -> C
         fail(rt.stderr(), b"standard output", &e);
         return ControlFlow::Break(Stop::Failed);
     }
-    *w = Walk {
-        state: l.state,
-        records: w.records.wrapping_add(l.records),
-    };
+    w.state = l.state;
+    w.records = w.records.wrapping_add(l.records);
     ControlFlow::Continue(())
 }
 
@@ -122,12 +122,11 @@ fn show(rt: &HostRuntime, w: &mut Walk, piece: &[u8], out: &mut [u8; ROOM]) -> C
 fn turn<R: Read>(
     rt: &HostRuntime,
     w: &mut Walk,
-    wound: bool,
     input: &mut R,
     buf: &mut [u8; 65536],
     out: &mut [u8; ROOM],
 ) -> ControlFlow<Stop> {
-    let n = wanted(w.state, wound);
+    let n = wanted(*w);
     if n == 0 {
         return ControlFlow::Break(Stop::End);
     }
@@ -146,13 +145,12 @@ fn turn<R: Read>(
 fn stream<R: Read>(
     rt: &HostRuntime,
     w: &mut Walk,
-    wound: bool,
     input: &mut R,
     buf: &mut [u8; 65536],
     out: &mut [u8; ROOM],
 ) -> Stop {
     for _ in 0..u64::MAX {
-        if let ControlFlow::Break(stop) = turn(rt, w, wound, input, buf, out) {
+        if let ControlFlow::Break(stop) = turn(rt, w, input, buf, out) {
             return stop;
         }
     }
@@ -258,13 +256,18 @@ fn list<R: Read>(
     buf: &mut [u8; 65536],
     out: &mut [u8; ROOM],
 ) {
-    let mut w = Walk { state, records: 0 };
-    let mut stop = stream(rt, &mut w, false, input, buf, out);
+    let mut w = Walk {
+        state,
+        records: 0,
+        wound: false,
+    };
+    let mut stop = stream(rt, &mut w, input, buf, out);
     if stop == Stop::End {
         if let Some(rest) = rest_of(w.state) {
             if let Some(mut again) = wound_back(rt, path, start, rest.from) {
                 w.state = onward(rest);
-                stop = stream(rt, &mut w, true, &mut again, buf, out);
+                w.wound = true;
+                stop = stream(rt, &mut w, &mut again, buf, out);
             }
         }
     }

@@ -9,43 +9,47 @@ ghost use Rattle.tally_text.specs.Groups.{group_text, each_group, groups_text};
 
 use text::{put_all, put_byte, put_decimal, put_hex};
 
+// What stands before, between and behind a group's label and count.
+#[derive(Clone, Copy)]
+pub struct Around<'a> {
+    pub before: &'a [u8],
+    pub between: u8,
+    pub behind: u8,
+}
+
 // Puts a group's label and count, with bytes before, between and behind them.
 fn put_group(
     out: &mut [u8],
     at: usize,
-    before: &[u8],
-    between: u8,
-    behind: u8,
+    around: Around,
     s: &[u8],
     first: usize,
     n: usize,
 ) -> usize
-    ensures { Put (group_text before.now between behind s.now first n) out.old at out.new result }
+    ensures { Put (group_text around.before.now around.between around.behind s.now first n) out.old at out.new result }
 {
-    let a = put_all(out, at, before);
+    let a = put_all(out, at, around.before);
     let b = put_hex(out, a, labels::label(s, first));
-    let c = put_byte(out, b, between);
+    let c = put_byte(out, b, around.between);
     let d = put_decimal(out, c, n as u64);
-    put_byte(out, d, behind)
+    put_byte(out, d, around.behind)
 }
 
 // Puts each group.
 fn put_groups(
     out: &mut [u8],
     at: usize,
-    before: &[u8],
-    between: u8,
-    behind: u8,
+    around: Around,
     s: &[u8],
     firsts: &[usize],
     counts: &[usize],
 ) -> usize
     requires { length firsts.now ≡ length counts.now }
-    ensures { Put (each_group (group_text before.now between behind s.now) firsts.now counts.now) out.old at out.new result }
+    ensures { Put (each_group (group_text around.before.now around.between around.behind s.now) firsts.now counts.now) out.old at out.new result }
 {
     let mut p = at;
     for (first, n) in firsts.iter().zip(counts) {
-        p = put_group(out, p, before, between, behind, s, *first, *n);
+        p = put_group(out, p, around, s, *first, *n);
     }
     p
 }
@@ -61,12 +65,10 @@ pub struct Tallied {
 pub fn put_tally(
     out: &mut [u8],
     at: usize,
-    before: &[u8],
-    between: u8,
-    behind: u8,
+    around: Around,
     s: &[u8],
 ) -> Tallied
-    ensures put { Put (groups_text before.now between behind s.now (groups_of s.now)) out.old at out.new result.at }
+    ensures put { Put (groups_text around.before.now around.between around.behind s.now (groups_of s.now)) out.old at out.new result.at }
     ensures other_value { result.other ≡ (groups_of s.now).other }
 {
     let mut firsts = [0usize; 64];
@@ -77,9 +79,7 @@ pub fn put_tally(
         at: put_groups(
             out,
             at,
-            before,
-            between,
-            behind,
+            around,
             s,
             &firsts[..n],
             &counts[..n],
