@@ -284,7 +284,7 @@ fn list_named(rt: &HostRuntime, buf: &mut [u8; 65536], out: &mut [u8; ROOM]) {
     };
     match File::open(rt, path) {
         Ok(mut input) => {
-            let start = if winds(rt, path) { Some(0) } else { None };
+            let start = winds(rt, path).then_some(0);
             list(
                 rt,
                 fed_states::open_limit(usize::MAX),
