@@ -21,6 +21,9 @@
 //     (v as f64 * 0.001) as f32, and by 0.0000254           metres_of_millimetres(v), metres_of_mils(v)
 //     if d > 10.0 { d as f64 / 1000.0 } else { d as f64 }   density(d)
 //     (master as f64 - 32.0) * 0.5 + delta as f64 * 0.1     gain(master, delta)
+//
+// What a pair of functions says of the f32 and of the f64 stays written twice: no trait of core has `from_bits` and `to_bits`, and f32 and
+// f64 share no constants, so one generic function would be longer than the two.
 #![tactic(auto)]
 
 ghost use Rattle.std.specs.Prelude.{◌≡◌, ◌-◌, ◌^◌, ◌<◌, ◌≤◌, from_bits, to_bits};
@@ -79,8 +82,8 @@ pub fn nearest_f32(v: u32) -> f32
         return 0.0;
     }
     let zeros = u32::leading_zeros(v);
-    let digits = (v as u64) * 16777216;
-    f32::from_bits(packed_f32((157 - zeros) as u64, digits, 32 - zeros))
+    let digits = u64::from(v) * 16777216;
+    f32::from_bits(packed_f32(u64::from(157 - zeros), digits, 32 - zeros))
 }
 
 // The f32 nearest to x, a tie to the even one: Rust's `x as f32`. The exponent's field gives the rounding place: 29 digits are dropped, and
@@ -163,7 +166,7 @@ pub fn finite_f64(x: f64) -> bool
 pub fn ratio(a: u32, b: u32) -> f64
     ensures { result ≡ ratio a b }
 {
-    (a as f64) / (b as f64)
+    f64::from(a) / f64::from(b)
 }
 
 // num / den seconds as milliseconds.
@@ -191,14 +194,14 @@ pub fn thousandths_f32(v: u32) -> f32
 pub fn low_tenths(v: u32) -> f32
     ensures { result ≡ low_tenths v }
 {
-    (signed::signed16((v % 65536) as u16) as f32) / 10.0
+    f32::from(signed::signed16((v % 65536) as u16)) / 10.0
 }
 
 // Tenths around 8000h in f64.
 pub fn offset_tenths(v: u16) -> f64
     ensures { result ≡ offset_tenths v }
 {
-    (signed::around16(v) as f64) / 10.0
+    f64::from(signed::around16(v)) / 10.0
 }
 
 // The density d, which above 10 is in thousandths, in f64.
@@ -216,14 +219,14 @@ pub fn density(d: f32) -> f64
 pub fn gain(master: u16, delta: u8) -> f64
     ensures { result ≡ gain master delta }
 {
-    ((master as f64) - 32.0) * 0.5 + (delta as f64) * 0.1
+    (f64::from(master) - 32.0) * 0.5 + f64::from(delta) * 0.1
 }
 
 // v units of so many metres: multiplied in f64, then narrowed once.
 fn metres(v: u32, unit: f64) -> f32
     ensures { result ≡ metres v unit }
 {
-    narrow_f32((v as f64) * unit)
+    narrow_f32(f64::from(v) * unit)
 }
 
 // v millimetres in metres.

@@ -9,17 +9,12 @@ ghost use Rattle.listing.specs.Listing.{printed};
 use std::io::Print;
 use streams::read_full;
 
-// Room for the listing of 65,536 bytes.
-fn room() -> [u8; 458752]
-    ensures { 458752 ≡ length result }
-{
-    [0; 458752]
-}
+// The room for the listing of 65,536 bytes.
+const ROOM: usize = 458752;
 
 // Puts the whole of what the program prints at the start of out, and answers how long it is.
-fn put_whole(s: &[u8], more: bool, out: &mut [u8]) -> usize
-    requires s_len_bound { length s.now ≤ 65536 }
-    requires in_bounds { 458752 ≤ length out.old }
+fn put_whole(s: &[u8], more: bool, out: &mut [u8; ROOM]) -> usize
+    requires { length s.now ≤ 65536 }
     ensures out_after { take result out.new ≡ printed s.now more }
     ensures prefix_len { IsPrefixLen result out.new }
 {
@@ -30,7 +25,7 @@ fn put_whole(s: &[u8], more: bool, out: &mut [u8]) -> usize
 fn show(to: &impl Print, s: &[u8], more: bool)
     requires { length s.now ≤ 65536 }
 {
-    let mut out = room();
+    let mut out = [0; ROOM];
     let n = put_whole(s, more, &mut out);
     let _ = to.write_all(&out[..n]);
 }

@@ -60,23 +60,32 @@ fn asked(rt: &impl Env) -> Option<Task> {
 // The room for the lines of 65,536 bytes.
 const ROOM: usize = 458752;
 
-// How many bytes to ask for: no more than the state may still take, so that what is listed depends on the bytes and not on how
-// they come. Where it may take none, one more would be refused; a walk that was wound back asks for none.
-fn wanted(st: State, wound: bool) -> usize
-    ensures { result ≤ 65536 }
-{
-    let left = st.limit.saturating_sub(st.at).saturating_sub(st.have);
-    if left == 0 {
-        return if wound { 0 } else { 1 };
-    }
-    left.min(65536)
+// What is read at once, and the lines of it.
+#[derive(Drop)]
+struct Rooms {
+    buf: [u8; 65536],
+    out: [u8; ROOM],
 }
 
-// A walk as it goes: its state, and the records so far.
+// A walk as it goes: its state, the records so far, and whether it was wound back.
 #[derive(Clone, Copy)]
 struct Walk {
     state: State,
     records: usize,
+    wound: bool,
+}
+
+// How many bytes to ask for: no more than the state may still take, so that what is listed depends on the bytes and not on how
+// they come. Where it may take none, one more would be refused; a walk that was wound back asks for none.
+fn wanted(w: Walk) -> usize
+    ensures { result ≤ 65536 }
+{
+    let st = w.state;
+    let left = st.limit.saturating_sub(st.at).saturating_sub(st.have);
+    if left == 0 {
+        return if w.wound { 0 } else { 1 };
+    }
+    left.min(65536)
 }
 
 // Why a walk goes no further.
@@ -111,10 +120,8 @@ fn show(rt: &HostRuntime, w: &mut Walk, piece: &[u8], out: &mut [u8; ROOM]) -> C
         fail(rt.stderr(), b"standard output", &e);
         return ControlFlow::Break(Stop::Failed);
     }
-    *w = Walk {
-        state: l.state,
-        records: w.records.wrapping_add(l.records),
-    };
+    w.state = l.state;
+    w.records = w.records.wrapping_add(l.records);
     ControlFlow::Continue(())
 }
 
@@ -122,37 +129,28 @@ fn show(rt: &HostRuntime, w: &mut Walk, piece: &[u8], out: &mut [u8; ROOM]) -> C
 fn turn<R: Read>(
     rt: &HostRuntime,
     w: &mut Walk,
-    wound: bool,
     input: &mut R,
-    buf: &mut [u8; 65536],
-    out: &mut [u8; ROOM],
+    rooms: &mut Rooms,
 ) -> ControlFlow<Stop> {
-    let n = wanted(w.state, wound);
+    let n = wanted(*w);
     if n == 0 {
         return ControlFlow::Break(Stop::End);
     }
-    match input.read(&mut buf[..n]) {
+    match input.read(&mut rooms.buf[..n]) {
         Err(e) => {
             fail(rt.stderr(), b"standard input", &e);
             ControlFlow::Break(Stop::Failed)
         }
         Ok(0) => ControlFlow::Break(Stop::End),
-        Ok(k) => show(rt, w, &buf[..k], out),
+        Ok(k) => show(rt, w, &rooms.buf[..k], &mut rooms.out),
     }
 }
 
 // Reads to the end of the input. A proved loop has to end, and nothing says that an input does: so its turns are counted, to a
 // number that no run comes to.
-fn stream<R: Read>(
-    rt: &HostRuntime,
-    w: &mut Walk,
-    wound: bool,
-    input: &mut R,
-    buf: &mut [u8; 65536],
-    out: &mut [u8; ROOM],
-) -> Stop {
+fn stream<R: Read>(rt: &HostRuntime, w: &mut Walk, input: &mut R, rooms: &mut Rooms) -> Stop {
     for _ in 0..u64::MAX {
-        if let ControlFlow::Break(stop) = turn(rt, w, wound, input, buf, out) {
+        if let ControlFlow::Break(stop) = turn(rt, w, input, rooms) {
             return stop;
         }
     }
@@ -255,24 +253,28 @@ fn list<R: Read>(
     input: &mut R,
     path: &str,
     start: Option<usize>,
-    buf: &mut [u8; 65536],
-    out: &mut [u8; ROOM],
+    rooms: &mut Rooms,
 ) {
-    let mut w = Walk { state, records: 0 };
-    let mut stop = stream(rt, &mut w, false, input, buf, out);
+    let mut w = Walk {
+        state,
+        records: 0,
+        wound: false,
+    };
+    let mut stop = stream(rt, &mut w, input, rooms);
     if stop == Stop::End {
         if let Some(rest) = rest_of(w.state) {
             if let Some(mut again) = wound_back(rt, path, start, rest.from) {
                 w.state = onward(rest);
-                stop = stream(rt, &mut w, true, &mut again, buf, out);
+                w.wound = true;
+                stop = stream(rt, &mut w, &mut again, rooms);
             }
         }
     }
-    finish(rt, w, stop, out);
+    finish(rt, w, stop, &mut rooms.out);
 }
 
 // Lists the file that the second word names, from its start on.
-fn list_named(rt: &HostRuntime, buf: &mut [u8; 65536], out: &mut [u8; ROOM]) {
+fn list_named(rt: &HostRuntime, rooms: &mut Rooms) {
     let mut name = io::buffer();
     let k = word(rt, 2, &mut name).unwrap_or(0);
     let path = match path_of(&name[..k]) {
@@ -281,15 +283,14 @@ fn list_named(rt: &HostRuntime, buf: &mut [u8; 65536], out: &mut [u8; ROOM]) {
     };
     match File::open(rt, path) {
         Ok(mut input) => {
-            let start = if winds(rt, path) { Some(0) } else { None };
+            let start = winds(rt, path).then_some(0);
             list(
                 rt,
                 fed_states::open_limit(usize::MAX),
                 &mut input,
                 path,
                 start,
-                buf,
-                out,
+                rooms,
             );
         }
         Err(e) => fail(rt.stderr(), &name[..k], &e),
@@ -297,10 +298,10 @@ fn list_named(rt: &HostRuntime, buf: &mut [u8; 65536], out: &mut [u8; ROOM]) {
 }
 
 // Lists standard input, which is of some bytes, at most or exactly.
-fn list_input(rt: &HostRuntime, state: State, buf: &mut [u8; 65536], out: &mut [u8; ROOM]) {
+fn list_input(rt: &HostRuntime, state: State, rooms: &mut Rooms) {
     let start = start_of(rt);
     let mut input = rt.stdin();
-    list(rt, state, &mut input, "/dev/stdin", start, buf, out);
+    list(rt, state, &mut input, "/dev/stdin", start, rooms);
 }
 
 fn main(rt: HostRuntime) {
@@ -308,11 +309,13 @@ fn main(rt: HostRuntime) {
         let _ = rt.stderr().write_all(b"klvstream [limit N | end N]\n");
         return;
     };
-    let mut buf = io::large_buffer();
-    let mut out = [0; ROOM];
+    let mut rooms = Rooms {
+        buf: io::large_buffer(),
+        out: [0; ROOM],
+    };
     match a {
-        Task::Limit(bytes) => list_input(&rt, fed_states::open_limit(bytes), &mut buf, &mut out),
-        Task::End(bytes) => list_input(&rt, fed_states::open_end(bytes), &mut buf, &mut out),
-        Task::File => list_named(&rt, &mut buf, &mut out),
+        Task::Limit(bytes) => list_input(&rt, fed_states::open_limit(bytes), &mut rooms),
+        Task::End(bytes) => list_input(&rt, fed_states::open_end(bytes), &mut rooms),
+        Task::File => list_named(&rt, &mut rooms),
     }
 }

@@ -10,11 +10,12 @@ ghost use Rattle.tally.specs.Groups.{groups_of};
 ghost use Rattle.listing.specs.Listing.{record_lines, count_line, other_line, tally_lines, listing_of, printed};
 
 use klv_text::put_record;
+use tally_text::Around;
 use text::{put_all, put_byte, put_decimal};
 use walk::{Cursor, Step};
 
 // How many records there are, and the place after their lines.
-#[derive(Clone, Copy)]
+#[derive(Clone, Copy, Debug, PartialEq, Eq)]
 struct Lines {
     records: usize,
     at: usize,
@@ -62,7 +63,12 @@ fn put_other(out: &mut [u8], at: usize, n: usize) -> usize
 fn put_tally(out: &mut [u8], at: usize, s: &[u8]) -> usize
     ensures { Put (tally_lines s.now (groups_of s.now)) out.old at out.new result }
 {
-    let t = tally_text::put_tally(out, at, b"label ", b' ', b'\n', s);
+    let line = Around {
+        before: b"label ",
+        between: b' ',
+        behind: b'\n',
+    };
+    let t = tally_text::put_tally(out, at, line, s);
     put_other(out, t.at, t.other)
 }
 

@@ -12,12 +12,8 @@ use std::rt::Env;
 use streams::{read_full, word};
 use text::put_all;
 
-// Room for the outline of 65,536 bytes.
-fn room() -> [u8; 393216]
-    ensures { 393216 ≡ length result }
-{
-    [0; 393216]
-}
+// The room for the outline of 65,536 bytes.
+const ROOM: usize = 393216;
 
 // The depth that a word is: a digit's number. Any other word is 0, which is refused.
 fn depth_of(word: &[u8]) -> usize
@@ -30,9 +26,8 @@ fn depth_of(word: &[u8]) -> usize
 }
 
 // Puts the whole of what the program prints at the start of out, and answers how long it is.
-fn put_whole(s: &[u8], more: bool, depth: usize, out: &mut [u8]) -> usize
-    requires s_len_bound { length s.now ≤ 65536 }
-    requires in_bounds { 393216 ≤ length out.old }
+fn put_whole(s: &[u8], more: bool, depth: usize, out: &mut [u8; ROOM]) -> usize
+    requires { length s.now ≤ 65536 }
     ensures out_after { take result out.new ≡ printed s.now more depth }
     ensures prefix_len { IsPrefixLen result out.new }
 {
@@ -49,7 +44,7 @@ fn put_whole(s: &[u8], more: bool, depth: usize, out: &mut [u8]) -> usize
 fn show(to: &impl Print, s: &[u8], more: bool, depth: usize)
     requires { length s.now ≤ 65536 }
 {
-    let mut out = room();
+    let mut out = [0; ROOM];
     let n = put_whole(s, more, depth, &mut out);
     let _ = to.write_all(&out[..n]);
 }

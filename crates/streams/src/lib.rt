@@ -28,13 +28,11 @@ pub fn word(rt: &impl Env, i: usize, buf: &mut [u8]) -> Option<usize>
 fn read_some<R: Read>(from: &mut R, buf: &mut [u8]) -> usize
     ensures { result ≤ length buf.new }
 {
-    match from.read(buf) {
-        Ok(n) => n,
-        Err(_) => 0,
-    }
+    from.read(buf).unwrap_or(0)
 }
 
-// Reads until buf is full, the input ends or a read fails: how many bytes came.
+// Reads until buf is full, the input ends or a read fails: how many bytes came. The loop counts them by hand: it goes
+// through no list of items, read_exact doesn't say how many came before the end, and read_to_end needs a heap.
 pub fn read_full<R: Read>(from: &mut R, buf: &mut [u8]) -> usize
     ensures { IsPrefixLen result buf.new }
 {
@@ -54,12 +52,9 @@ fn said(text: &[u8]) -> usize
     ensures { IsPrefixLen result text.now }
 {
     let number = b" (os error ";
-    for i in 0..text.len() {
-        if text[i..].starts_with(number) {
-            return i;
-        }
-    }
-    text.len()
+    text.windows(number.len())
+        .position(|w| w.starts_with(number))
+        .unwrap_or(text.len())
 }
 
 // Puts the line on a failure: what failed, a colon and what the system says of it.

@@ -104,10 +104,7 @@ fn number(
 ) -> Option<Pair> {
     let x = tapes::next(rt.stderr(), p.main, main);
     let y = tapes::next(rt.stderr(), p.backup, backup);
-    if x.failed | y.failed {
-        return None;
-    }
-    let takes = meet(rt, p.takes, x.side, y.side)?;
+    let takes = meet(rt, p.takes, x.side.ok()?, y.side.ok()?)?;
     Some(Pair {
         main: x.tape,
         backup: y.tape,

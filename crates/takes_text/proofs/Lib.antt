@@ -1,1 +1,2 @@
 pub mod Fits
+mod Fields

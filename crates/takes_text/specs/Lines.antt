@@ -1,5 +1,5 @@
 -- A difference as lines of text: docs/RULES.md, "L14. Two recordings of one take".
-use Rattle.std.specs.Prelude.{ℕ, ◌/◌, ◌%◌, ◌^◌, List, [], ◌∷◌, ◌++◌, Bool, cond, eqb, get_or, Option, None}
+use Rattle.std.specs.Prelude.{ℕ, ◌+◌, ◌/◌, ◌%◌, ◌^◌, List, [], ◌∷◌, ◌++◌, Bool, cond, eqb, get_or, Option, None}
 use Rattle.text.specs.Write.{decimal_of}
 use Rattle.frame_differences.specs.declared.Said.{Said}
 use Rattle.frame_differences.specs.Said.{said_of}
@@ -34,33 +34,39 @@ unfoldable pub field_line : ℕ → ℕ → ℕ → List ℕ → List (Option Sa
 field_line n m k name x y = cond (has m k) (line_of n name (figure_text (get_or x k None)) (figure_text (get_or y k None))) []
 
 -- the fields by their names, in the order of the header
-unfoldable pub first_lines : ℕ → ℕ → List (Option Said) → List (Option Said) → List ℕ
-first_lines n m x y =
-    field_line n m 0 focal_length_name x y
-    ++ field_line n m 1 focus_distance_name x y
-    ++ field_line n m 2 t_stop_name x y
-    ++ field_line n m 3 exposure_time_name x y
-    ++ field_line n m 4 shutter_angle_name x y
-    ++ field_line n m 5 tilt_roll_name x y
-    ++ field_line n m 6 exposure_index_name x y
-    ++ field_line n m 7 white_balance_name x y
-    ++ field_line n m 8 nd_density_name x y
-    ++ field_line n m 9 effective_focal_length_name x y
+unfoldable pub field_names : List (List ℕ)
+field_names =
+    focal_length_name ∷
+    focus_distance_name ∷
+    t_stop_name ∷
+    exposure_time_name ∷
+    shutter_angle_name ∷
+    tilt_roll_name ∷
+    exposure_index_name ∷
+    white_balance_name ∷
+    nd_density_name ∷
+    effective_focal_length_name ∷
+    white_balance_factors_name ∷
+    focus_lds_name ∷
+    focus_motor_name ∷
+    zoom_lds_name ∷
+    zoom_motor_name ∷
+    iris_lds_name ∷
+    iris_motor_name ∷
+    tint ∷
+    sensor_rate_name ∷
+    []
 
-unfoldable pub last_lines : ℕ → ℕ → List (Option Said) → List (Option Said) → List ℕ
-last_lines n m x y =
-    field_line n m 10 white_balance_factors_name x y
-    ++ field_line n m 11 focus_lds_name x y
-    ++ field_line n m 12 focus_motor_name x y
-    ++ field_line n m 13 zoom_lds_name x y
-    ++ field_line n m 14 zoom_motor_name x y
-    ++ field_line n m 15 iris_lds_name x y
-    ++ field_line n m 16 iris_motor_name x y
-    ++ field_line n m 17 tint x y
-    ++ field_line n m 18 sensor_rate_name x y
+abbrev pub name_of : ℕ → List ℕ
+name_of k = get_or field_names k []
+
+-- the lines of the fields from k on, by their names
+unfoldable pub lines_from : ℕ → ℕ → List (Option Said) → List (Option Said) → ℕ → List (List ℕ) → List ℕ
+lines_from n m x y k [] = []
+lines_from n m x y k (name ∷ names) = field_line n m k name x y ++ lines_from n m x y (k + 1) names
 
 abbrev pub field_lines : ℕ → Both → List ℕ
-field_lines n b = first_lines n b.fields (said_of b.main) (said_of b.backup) ++ last_lines n b.fields (said_of b.main) (said_of b.backup)
+field_lines n b = lines_from n b.fields (said_of b.main) (said_of b.backup) 0 field_names
 
 -- `yes -` or `- yes`: which side has something
 unfoldable pub yes_of : Recorder → List ℕ

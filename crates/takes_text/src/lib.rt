@@ -6,7 +6,7 @@
 ghost use Rattle.std.specs.Prelude.{◌≡◌, ◌<◌};
 ghost use Rattle.text.specs.Write.{Put};
 ghost use Rattle.take_figures.specs.Figures.{figure_text};
-ghost use Rattle.takes_text.specs.Lines.{has, head_of, line_of, field_line, first_lines, last_lines, field_lines, yes_of, sided_line, difference_lines};
+ghost use Rattle.takes_text.specs.Lines.{has, head_of, line_of, field_line, name_of, field_lines, yes_of, sided_line, difference_lines};
 
 use frame_differences::{Said, row};
 use take_figures::put_figure;
@@ -70,49 +70,35 @@ fn put_field(
     at
 }
 
-// Puts the lines of the first ten fields.
-fn put_first(
-    out: &mut [u8],
-    at: usize,
-    n: u64,
-    m: u32,
-    x: [Option<Said>; 19],
-    y: [Option<Said>; 19],
-) -> usize
-    ensures { Put (first_lines n m x y) out.old at out.new result }
-{
-    let a = put_field(out, at, n, m, 0, b"focal_length", x, y);
-    let b = put_field(out, a, n, m, 1, b"focus_distance", x, y);
-    let c = put_field(out, b, n, m, 2, b"t_stop", x, y);
-    let d = put_field(out, c, n, m, 3, b"exposure_time", x, y);
-    let e = put_field(out, d, n, m, 4, b"shutter_angle", x, y);
-    let f = put_field(out, e, n, m, 5, b"tilt_roll", x, y);
-    let g = put_field(out, f, n, m, 6, b"exposure_index", x, y);
-    let h = put_field(out, g, n, m, 7, b"white_balance", x, y);
-    let i = put_field(out, h, n, m, 8, b"nd_density", x, y);
-    put_field(out, i, n, m, 9, b"effective_focal_length", x, y)
-}
+// The fields by their names, in the order of the header.
+const NAMES: [&[u8]; 19] = [
+    b"focal_length",
+    b"focus_distance",
+    b"t_stop",
+    b"exposure_time",
+    b"shutter_angle",
+    b"tilt_roll",
+    b"exposure_index",
+    b"white_balance",
+    b"nd_density",
+    b"effective_focal_length",
+    b"white_balance_factors",
+    b"focus_lds",
+    b"focus_motor",
+    b"zoom_lds",
+    b"zoom_motor",
+    b"iris_lds",
+    b"iris_motor",
+    b"tint",
+    b"sensor_rate",
+];
 
-// Puts the lines of the other nine.
-fn put_last(
-    out: &mut [u8],
-    at: usize,
-    n: u64,
-    m: u32,
-    x: [Option<Said>; 19],
-    y: [Option<Said>; 19],
-) -> usize
-    ensures { Put (last_lines n m x y) out.old at out.new result }
+// The name of field k.
+fn name_of(k: usize) -> &'static [u8]
+    requires { k < 19 }
+    ensures { result.now ≡ name_of k }
 {
-    let a = put_field(out, at, n, m, 10, b"white_balance_factors", x, y);
-    let b = put_field(out, a, n, m, 11, b"focus_lds", x, y);
-    let c = put_field(out, b, n, m, 12, b"focus_motor", x, y);
-    let d = put_field(out, c, n, m, 13, b"zoom_lds", x, y);
-    let e = put_field(out, d, n, m, 14, b"zoom_motor", x, y);
-    let f = put_field(out, e, n, m, 15, b"iris_lds", x, y);
-    let g = put_field(out, f, n, m, 16, b"iris_motor", x, y);
-    let h = put_field(out, g, n, m, 17, b"tint", x, y);
-    put_field(out, h, n, m, 18, b"sensor_rate", x, y)
+    NAMES[k]
 }
 
 // Puts a line for each field that differs.
@@ -121,8 +107,11 @@ fn put_fields(out: &mut [u8], at: usize, number: u64, b: Both) -> usize
 {
     let x = row(b.main);
     let y = row(b.backup);
-    let a = put_first(out, at, number, b.fields, x, y);
-    put_last(out, a, number, b.fields, x, y)
+    let mut p = at;
+    for k in 0..19 {
+        p = put_field(out, p, number, b.fields, k, name_of(k), x, y);
+    }
+    p
 }
 
 // Puts which side has something.

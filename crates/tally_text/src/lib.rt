@@ -9,64 +9,54 @@ ghost use Rattle.tally_text.specs.Groups.{group_text, each_group, groups_text};
 
 use text::{put_all, put_byte, put_decimal, put_hex};
 
+// What stands before, between and behind a group's label and count.
+#[derive(Clone, Copy, Debug, PartialEq, Eq)]
+pub struct Around<'a> {
+    pub before: &'a [u8],
+    pub between: u8,
+    pub behind: u8,
+}
+
 // Puts a group's label and count, with bytes before, between and behind them.
-fn put_group(
-    out: &mut [u8],
-    at: usize,
-    before: &[u8],
-    between: u8,
-    behind: u8,
-    s: &[u8],
-    first: usize,
-    n: usize,
-) -> usize
-    ensures { Put (group_text before.now between behind s.now first n) out.old at out.new result }
+fn put_group(out: &mut [u8], at: usize, around: Around, s: &[u8], first: usize, n: usize) -> usize
+    ensures { Put (group_text around.entry.before.now around.entry.between around.entry.behind s.now first n) out.old at out.new result }
 {
-    let a = put_all(out, at, before);
+    let a = put_all(out, at, around.before);
     let b = put_hex(out, a, labels::label(s, first));
-    let c = put_byte(out, b, between);
+    let c = put_byte(out, b, around.between);
     let d = put_decimal(out, c, n as u64);
-    put_byte(out, d, behind)
+    put_byte(out, d, around.behind)
 }
 
 // Puts each group.
 fn put_groups(
     out: &mut [u8],
     at: usize,
-    before: &[u8],
-    between: u8,
-    behind: u8,
+    around: Around,
     s: &[u8],
     firsts: &[usize],
     counts: &[usize],
 ) -> usize
     requires { length firsts.now ≡ length counts.now }
-    ensures { Put (each_group (group_text before.now between behind s.now) firsts.now counts.now) out.old at out.new result }
+    ensures { Put (each_group (group_text around.entry.before.now around.entry.between around.entry.behind s.now) firsts.now counts.now) out.old at out.new result }
 {
     let mut p = at;
     for (first, n) in firsts.iter().zip(counts) {
-        p = put_group(out, p, before, between, behind, s, *first, *n);
+        p = put_group(out, p, around, s, *first, *n);
     }
     p
 }
 
 // Where the groups' text ends, and how many records are in none of them.
-#[derive(Clone, Copy)]
+#[derive(Clone, Copy, Debug, PartialEq, Eq)]
 pub struct Tallied {
     pub at: usize,
     pub other: usize,
 }
 
 // Puts the groups of the tally of the finished walk over s, each with bytes before, between and behind.
-pub fn put_tally(
-    out: &mut [u8],
-    at: usize,
-    before: &[u8],
-    between: u8,
-    behind: u8,
-    s: &[u8],
-) -> Tallied
-    ensures put { Put (groups_text before.now between behind s.now (groups_of s.now)) out.old at out.new result.at }
+pub fn put_tally(out: &mut [u8], at: usize, around: Around, s: &[u8]) -> Tallied
+    ensures put { Put (groups_text around.entry.before.now around.entry.between around.entry.behind s.now (groups_of s.now)) out.old at out.new result.at }
     ensures other_value { result.other ≡ (groups_of s.now).other }
 {
     let mut firsts = [0usize; 64];
@@ -74,16 +64,7 @@ pub fn put_tally(
     let t = tally::count_all(s, &mut firsts, &mut counts);
     let n = t.groups;
     Tallied {
-        at: put_groups(
-            out,
-            at,
-            before,
-            between,
-            behind,
-            s,
-            &firsts[..n],
-            &counts[..n],
-        ),
+        at: put_groups(out, at, around, s, &firsts[..n], &counts[..n]),
         other: t.other,
     }
 }

@@ -3,29 +3,22 @@
 // said on standard error.
 #![tactic(auto)]
 
-ghost use Rattle.std.specs.Prelude.{◌≡◌, ◌≤◌, length};
+ghost use Rattle.std.specs.Prelude.{◌≡◌, ◌<◌, ◌≤◌, length, IfOk, MatchResult};
 ghost use Rattle.io.specs.Counts.{IsPrefixLen};
 ghost use Rattle.tapes.specs.Frames.{read_as};
-ghost use Rattle.tapes.specs.Tapes.{unread_of, place_of, needed_of, no_frame, ReadBy, Finds};
+ghost use Rattle.tapes.specs.Tapes.{unread_of, place_of, needed_of, ReadBy, Finds};
 
 use fed_frames::{FrameAnswer, FrameState};
 use fed_states::State;
 use frame_walks::{Camera, FrameElement};
 use std::fs::File;
+use std::io;
 use std::io::{Error, Print, Stderr};
+use std::ops::ControlFlow;
 use std::os::unix::fs::FileExt;
 use streams::fail;
 use take_frames::Recorded;
 use takes::Stop;
-
-// How far the reading of a file has come.
-#[derive(Clone, Copy)]
-pub enum Stage {
-    Goes,
-    Frame(FrameElement),
-    Over,
-    Failed,
-}
 
 // A recorder's file, none where it can't be opened: its walk, and the bytes of it that are in the room, so many from a place on.
 #[derive(Drop)]
@@ -35,8 +28,11 @@ pub struct Tape {
     pub walk: FrameState,
     pub from: usize,
     pub count: usize,
-    pub stage: Stage,
 }
+
+// A file that could not be read on. Standard error has said why.
+#[derive(Clone, Copy, Debug, PartialEq, Eq)]
+pub struct Unreadable;
 
 // A file of so many bytes, of which none has been read.
 pub fn unread(file: Option<File>, size: usize) -> Tape
@@ -48,7 +44,6 @@ pub fn unread(file: Option<File>, size: usize) -> Tape
         walk: fed_frames::open_end(Camera::Arri, size, 0),
         from: 0,
         count: 0,
-        stage: Stage::Goes,
     }
 }
 
@@ -66,109 +61,79 @@ fn wanted(size: usize, place: usize) -> usize
     size.saturating_sub(place).min(65536)
 }
 
-// A file whose walk has gone on, with so many bytes in the room.
-fn moved(t: Tape, walk: FrameState, from: usize, count: usize, stage: Stage) -> Tape {
-    Tape {
-        file: t.file,
-        size: t.size,
-        walk,
-        from,
-        count,
-        stage,
-    }
-}
-
 // The system's numbers for a file that is not open, and for a call that went well.
 const NOT_OPEN: i32 = 9;
 
 const WENT_WELL: i32 = 0;
 
-// How many bytes came, and why none did where the system refused.
-#[derive(Drop)]
-struct Fetched {
-    count: usize,
-    trouble: Option<Error>,
-}
-
-// Reads n bytes from a place on.
-fn fetch(file: &Option<File>, place: usize, n: usize, room: &mut [u8]) -> Fetched
+// Reads n bytes from a place on, or fewer.
+fn fetch(file: &Option<File>, place: usize, n: usize, room: &mut [u8]) -> io::Result<usize>
     requires { n ≤ length room.old }
-    ensures { IsPrefixLen result.count room.new }
+    ensures { IfOk result (λ k. IsPrefixLen k room.new) }
 {
-    let got = match file {
+    match file {
         Some(open) => open.read_at(&mut room[..n], place as u64),
         None => Err(Error::from_raw_os_error(NOT_OPEN)),
-    };
-    match got {
-        Ok(count) => Fetched {
-            count,
-            trouble: None,
-        },
-        Err(e) => Fetched {
-            count: 0,
-            trouble: Some(e),
-        },
     }
 }
 
-// Says on standard error what failed, and why. Too few bytes of a read that went well are no trouble of the system's.
-fn say(to: Stderr, what: &[u8], trouble: Option<Error>) {
-    let error = trouble.unwrap_or(Error::from_raw_os_error(WENT_WELL));
-    fail(to, what, &error);
+// Says on standard error what failed, and why.
+fn trouble(to: Stderr, what: &[u8], error: &Error) -> Unreadable {
+    fail(to, what, error);
+    Unreadable
 }
 
-// Reads from the place of the next byte on.
-fn fill(err: Stderr, t: Tape, buf: &mut [u8; 65536]) -> Tape {
-    let walk = t.walk;
-    let s = walk.state;
-    let p = place(s);
+// Reads from the place of the next byte on, and stops at the end. That nothing came of a read that went well is no trouble of the system's.
+fn fill(
+    err: Stderr,
+    t: &mut Tape,
+    buf: &mut [u8; 65536],
+) -> ControlFlow<Result<Option<FrameElement>, Unreadable>> {
+    let p = place(t.walk.state);
     let n = wanted(t.size, p);
     if n == 0 {
-        let from = t.from;
-        let count = t.count;
-        return moved(t, walk, from, count, Stage::Over);
+        return ControlFlow::Break(Ok(None));
     }
-    let got = fetch(&t.file, p, n, buf);
-    let k = got.count;
-    if k == 0 {
-        say(err, b"a file can't be read to its end", got.trouble);
-        let from = t.from;
-        let count = t.count;
-        return moved(t, walk, from, count, Stage::Failed);
-    }
-    moved(t, walk, p, k, Stage::Goes)
-}
-
-// What a call's answer makes of a file.
-fn stage_of(a: FrameAnswer) -> Stage {
-    match a {
-        FrameAnswer::Frame(f, _) => Stage::Frame(f),
-        FrameAnswer::Nothing => Stage::Goes,
-        // Never: ARRI's walk gives nothing beside frames.
-        FrameAnswer::Given(_, _) => Stage::Goes,
-    }
-}
-
-// Feeds the bytes that are in the room, from the i-th on.
-fn feed(err: Stderr, t: Tape, buf: &[u8], i: usize) -> Tape {
-    let walk = t.walk;
-    let from = t.from;
-    let count = t.count;
-    match fed_frames::feed(walk, parts::part(buf, i, count.saturating_sub(i))) {
-        Ok(f) => moved(t, f.walk, from, count, stage_of(f.answer)),
-        // Never: no more is fed than the file's bytes.
-        Err(_) => {
-            let _ = err.write_all(b"a file's walk refuses its bytes\n");
-            moved(t, walk, from, count, Stage::Failed)
+    let what = b"a file can't be read to its end";
+    match fetch(&t.file, p, n, buf) {
+        Ok(0) => ControlFlow::Break(Err(trouble(err, what, &Error::from_raw_os_error(WENT_WELL)))),
+        Err(e) => ControlFlow::Break(Err(trouble(err, what, &e))),
+        Ok(k) => {
+            t.from = p;
+            t.count = k;
+            ControlFlow::Continue(())
         }
     }
 }
 
+// Feeds the bytes that are in the room, from the i-th on, and stops at a frame.
+fn feed(
+    err: Stderr,
+    t: &mut Tape,
+    buf: &[u8],
+    i: usize,
+) -> ControlFlow<Result<Option<FrameElement>, Unreadable>> {
+    let piece = parts::part(buf, i, t.count.saturating_sub(i));
+    // Never refused: no more is fed than the file's bytes.
+    let Ok(f) = fed_frames::feed(t.walk, piece) else {
+        let _ = err.write_all(b"a file's walk refuses its bytes\n");
+        return ControlFlow::Break(Err(Unreadable));
+    };
+    t.walk = f.walk;
+    match f.answer {
+        FrameAnswer::Frame(k, _) => ControlFlow::Break(Ok(Some(k))),
+        // Given never: ARRI's walk gives nothing beside frames.
+        FrameAnswer::Nothing | FrameAnswer::Given(_, _) => ControlFlow::Continue(()),
+    }
+}
+
 // Feeds what is in the room of the bytes that come next, or reads them.
-fn turn(err: Stderr, t: Tape, buf: &mut [u8; 65536]) -> Tape {
-    let w = t.walk;
-    let s = w.state;
-    let p = place(s);
+fn turn(
+    err: Stderr,
+    t: &mut Tape,
+    buf: &mut [u8; 65536],
+) -> ControlFlow<Result<Option<FrameElement>, Unreadable>> {
+    let p = place(t.walk.state);
     let i = p.saturating_sub(t.from);
     if (t.from <= p) & (i < t.count) {
         return feed(err, t, buf, i);
@@ -176,16 +141,19 @@ fn turn(err: Stderr, t: Tape, buf: &mut [u8; 65536]) -> Tape {
     fill(err, t, buf)
 }
 
-// Takes turns up to the next frame. A proved loop has to end: its turns are counted, to a number that no run comes to.
-fn wind(err: Stderr, first: Tape, buf: &mut [u8; 65536]) -> Tape {
-    let mut t = turn(err, first, buf);
+// Takes turns up to the next frame, none where the file ends. A proved loop has to end: its turns are counted, to a number that no run
+// comes to.
+fn wind(
+    err: Stderr,
+    t: &mut Tape,
+    buf: &mut [u8; 65536],
+) -> Result<Option<FrameElement>, Unreadable> {
     for _ in 0..u64::MAX {
-        if !matches!(t.stage, Stage::Goes) {
-            return t;
+        if let ControlFlow::Break(met) = turn(err, t, buf) {
+            return met;
         }
-        t = turn(err, t, buf);
     }
-    t
+    Err(Unreadable)
 }
 
 // What a recorder has of a frame, by its label and its element's bytes.
@@ -204,23 +172,11 @@ fn recorded(f: FrameElement, label: &[u8; 16], element: &[u8]) -> Recorded
     }
 }
 
-// One side of a number, and whether it could be read.
+// One side of a number: what the file has of its next frame, none where it ends.
 #[derive(Drop)]
 pub struct Found {
     pub tape: Tape,
-    pub side: Option<Stop>,
-    pub failed: bool,
-}
-
-// A side without a frame.
-fn none(tape: Tape, failed: bool) -> Found
-    ensures { result ≡ no_frame tape failed }
-{
-    Found {
-        tape,
-        side: None,
-        failed,
-    }
+    pub side: Result<Option<Stop>, Unreadable>,
 }
 
 // How many bytes of a frame's element are read.
@@ -234,6 +190,21 @@ fn needed(f: FrameElement) -> usize
     f.element.len.min(8192)
 }
 
+// Reads the first n bytes of a frame's element, which are all or it fails. A read of none can't fail.
+fn element_bytes(file: &Option<File>, place: usize, n: usize, room: &mut [u8]) -> io::Result<usize>
+    requires { n ≤ length room.old }
+    ensures { MatchResult result (λ k. (k ≡ n) × IsPrefixLen k room.new) (λ _. 0 < n) }
+{
+    if n == 0 {
+        return Ok(0);
+    }
+    let k = fetch(file, place, n, room)?;
+    if k == n {
+        return Ok(k);
+    }
+    Err(Error::from_raw_os_error(WENT_WELL))
+}
+
 // Reads a frame's element. The walk stands behind it, and has its label yet.
 fn read(err: Stderr, t: Tape, f: FrameElement) -> Found
     ensures { ReadBy t f result }
@@ -244,20 +215,19 @@ fn read(err: Stderr, t: Tape, f: FrameElement) -> Found
     let k = f.element;
     let n = needed(f);
     let mut element = [0u8; 8192];
-    let got = fetch(&t.file, k.value, n, &mut element);
-    let have = got.count;
-    if have != n {
-        say(err, b"a frame can't be read", got.trouble);
-        return none(t, true);
-    }
-    let recorded = recorded(f, &label, &element[..have]);
-    Found {
-        tape: t,
-        side: Some(Stop {
-            recorded,
-            next: place(s),
-        }),
-        failed: false,
+    match element_bytes(&t.file, k.value, n, &mut element) {
+        Err(e) => Found {
+            side: Err(trouble(err, b"a frame can't be read", &e)),
+            tape: t,
+        },
+        Ok(have) => {
+            let recorded = recorded(f, &label, &element[..have]);
+            let next = place(s);
+            Found {
+                tape: t,
+                side: Ok(Some(Stop { recorded, next })),
+            }
+        }
     }
 }
 
@@ -265,12 +235,16 @@ fn read(err: Stderr, t: Tape, f: FrameElement) -> Found
 pub fn next(err: Stderr, first: Tape, buf: &mut [u8; 65536]) -> Found
     ensures { Finds result }
 {
-    let t = wind(err, first, buf);
-    let s = t.stage;
-    match s {
-        Stage::Frame(f) => read(err, t, f),
-        Stage::Over => none(t, false),
-        Stage::Goes => none(t, true),
-        Stage::Failed => none(t, true),
+    let mut t = first;
+    match wind(err, &mut t, buf) {
+        Ok(Some(f)) => read(err, t, f),
+        Ok(None) => Found {
+            tape: t,
+            side: Ok(None),
+        },
+        Err(e) => Found {
+            tape: t,
+            side: Err(e),
+        },
     }
 }

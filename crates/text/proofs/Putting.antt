@@ -57,17 +57,6 @@ pub put_next : (s : List ℕ) {o₀ : List ℕ} {at : ℕ} (i : ℕ) {o : List �
     → Put (take i s) o₀ at o r → Put (get_or s i 0 ∷ []) o r o₂ q → Put (take (i + 1) s) o₀ at o₂ q
 put_next s i h a b = rw (add-one, take-suc s i 0 h) (a ▹ b)
 
--- the same where there is room: each byte is stored behind the last
-pub put-start : (o : List ℕ) (at : ℕ) → Put [] o at o (at + 0)
-put-start o at = let x : at + 0 ≡ at = omega arith in rw x (put-none o at)
-
-pub put-more : (s : List ℕ) {o₀ : List ℕ} (at i : ℕ) {o : List ℕ} → i < length s → at + i < length o → Put (take i s) o₀ at o (at + i)
-    → Put (take (i + 1) s) o₀ at (set o (at + i) (get_or s i 0)) (at + (i + 1))
-put-more s at i {o} h m a = let x : at + (i + 1) ≡ at + i + 1 = omega arith in rw x (put_next s i h a (put_one o (at + i) (get_or s i 0) m))
-
-pub put-end : (s : List ℕ) {o₀ : List ℕ} {at : ℕ} (i : ℕ) {o : List ℕ} {r : ℕ} → length s ≤ i → Put (take i s) o₀ at o r → Put s o₀ at o r
-put-end s i h a = rw (take_all i s h) at a
-
 -- as much of a text as there is room for, written as one part
 sets_cut : (s o : List ℕ) (at n : ℕ) → n ≡ min (length s) (length o - at) → sets o at s ≡ sets o at (take n s)
 sets_cut s o at n e =

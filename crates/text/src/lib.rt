@@ -31,7 +31,7 @@ pub fn put_all(out: &mut [u8], at: usize, s: &[u8]) -> usize
     at + n
 }
 
-// Puts a number in decimal.
+// Puts a number in decimal. Its callers widen a usize by `as`: std has no From between usize and u64.
 pub fn put_decimal(out: &mut [u8], at: usize, n: u64) -> usize
     ensures { Put (decimal_of n) out.old at out.new result }
 {

@@ -1,4 +1,4 @@
--- `floats::low_tenths` meets its contract: an f32 holds every i16, so the cast is exact. Assumes nothing.
+-- `floats::low_tenths` meets its contract: an f32 holds every i16, so the conversion is exact. Assumes nothing.
 use Rattle.std.proofs.Common.{w16}
 use mir.ValLaws.{to_z-of_z}
 use Rattle.floats.specs.Quotients.{quotient, low_tenths}

@@ -4,4 +4,4 @@ use Rattle.floats.proofs.metres.Goals as goal
 
 pub returns : goal.returns
 unfolding metres
-returns c = c.narrow_f32.ensures
+returns c = rw c.from.ensures at c.narrow_f32.ensures

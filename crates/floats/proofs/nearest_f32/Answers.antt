@@ -27,4 +27,4 @@ float_from_bits-result c = no_nan binary32 c.packed_f32.result (omega (arith, su
 
 pub returns : goal.returns
 returns c =
-    ap (of_bits binary32) c.packed_f32.ensures ∙ sym (of_zeros c.args.v (positive (goal.at.returns c).Else-v-eq0) c.ranges.v.fits).1
+    ap (of_bits binary32) (rw (c.from.ensures, c.from-digits.ensures) at c.packed_f32.ensures) ∙ sym (of_zeros c.args.v (positive (goal.at.returns c).Else-v-eq0) c.ranges.v.fits).1

@@ -1,4 +1,4 @@
--- `floats::offset_tenths` meets its contract: an f64 holds every i32, so the cast is exact. Assumes nothing.
+-- `floats::offset_tenths` meets its contract: an f64 holds every i32, so the conversion is exact. Assumes nothing.
 use Rattle.std.proofs.Common.{w32}
 use mir.ValLaws.{to_z-of_z}
 use Rattle.floats.specs.Quotients.{quotient, offset_tenths}

@@ -7,6 +7,5 @@ use Rattle.klvlist.proofs.put_whole.Goals as goal
 
 pub returns : goal.returns
 returns c =
-    let p = c.requires in
     let l = c.print.ensures in
-    record { out_after = whole _ _ p.s_len_bound p.in_bounds l; prefix_len = prefix_len_of_le _ _ (put-room l (omega arith)) }
+    record { out_after = whole _ _ c.requires (omega arith) l; prefix_len = prefix_len_of_le _ _ (put-room l (omega arith)) }

@@ -10,12 +10,10 @@ returns-then-more c =
 
 pub returns-in-Ok : goal.returns-in-Ok
 returns-in-Ok c =
-    let pre = c.requires in
-    let all = printed-done _ _ _ pre.s_len_bound pre.in_bounds _ c.if-more.false _ c.in-Ok.ensures.result_value _ c.in-Ok.ensures.out_after in
+    let all = printed-done _ _ _ c.requires (omega arith) _ c.if-more.false _ c.in-Ok.ensures.result_value _ c.in-Ok.ensures.out_after in
     record { out_after = all.0; prefix_len = all.1 }
 
 pub returns-in-Err : goal.returns-in-Err
 returns-in-Err c =
-    let pre = c.requires in
-    let all = printed-refused _ _ c.args.out.now pre.s_len_bound pre.in_bounds _ c.if-more.false _ c.in-Err.ensures.result_value c.put_all-in-Err.ensures (omega arith) in
+    let all = printed-refused _ _ c.args.out.now c.requires (omega arith) _ c.if-more.false _ c.in-Err.ensures.result_value c.put_all-in-Err.ensures (omega arith) in
     record { out_after = all.0; prefix_len = all.1 }

@@ -6,4 +6,4 @@ use Rattle.tally_text.proofs.put_groups.Given as goal
 
 abbrev pub invariant-loop-first : goal.invariant-loop-first
 invariant-loop-first l =
-    Grouping (group_text l.before l.between l.behind l.s) l.firsts l.counts l.initial.out l.at l.out l.p (length l.yielded)
+    Grouping (group_text l.around.before.now l.around.between l.around.behind l.s) l.firsts l.counts l.initial.out l.at l.out l.p (length l.yielded)

@@ -1,20 +1,16 @@
--- `tapes::next` finds what each stage has.
-use Rattle.std.proofs.Common.{[]}
+-- `tapes::next` finds what the walk met: a frame, the file's end or trouble.
+use Rattle.std.proofs.Common.{[], refl, Ok, Err, Some, None}
 use Rattle.tapes.specs.Tapes.{found_by}
 use Rattle.tapes.proofs.next.Goals as goal
 
-pub returns-in-Frame : goal.returns-in-Frame
+pub returns-in-Ok-Some : goal.returns-in-Ok-Some
 unfolding found_by
-returns-in-Frame c = (c.wind-t.result, c.read.ensures.0, rw (c.read.ensures.1, c.in-Frame.is))
+returns-in-Ok-Some c = (c.wind.new.t, c.read.ensures.0, Ok (Some c.in-Ok-Some.f), c.read.ensures.1)
 
-pub returns-in-Over : goal.returns-in-Over
+pub returns-in-Ok-None : goal.returns-in-Ok-None
 unfolding found_by
-returns-in-Over c = (c.wind-t.result, [], rw (c.none.ensures, c.in-Over.is))
+returns-in-Ok-None c = (c.wind.new.t, [], Ok None, refl)
 
-pub returns-in-Goes : goal.returns-in-Goes
+pub returns-in-Err : goal.returns-in-Err
 unfolding found_by
-returns-in-Goes c = (c.wind-t.result, [], rw (c.none-in-Goes.ensures, c.in-Goes.is))
-
-pub returns-in-Failed : goal.returns-in-Failed
-unfolding found_by
-returns-in-Failed c = (c.wind-t.result, [], rw (c.none-in-Failed.ensures, c.in-Failed.is))
+returns-in-Err c = (c.wind.new.t, [], Err c.in-Err.e, refl)
