@@ -7,7 +7,11 @@ use Rattle.steps.specs.Told.{found, nothing}
 use Rattle.klv.specs.Item.{Item, value_of}
 use Rattle.items.specs.Items.{item_step}
 use Rattle.items.proofs.From.{items_from, no_items, one_more}
-use Rattle.arri_alexa35_values.specs.Said.{Said}
+use Rattle.std.specs.Prelude.{None}
+use Rattle.arri_alexa35_items.specs.Kinds.{number_in}
+use Rattle.arri_alexa35_values.specs.declared.Values.{Values}
+use Rattle.arri_alexa35_values.specs.Said.{Said, said, erases, keeps}
+use Rattle.arri_alexa35_values.specs.Values.{orientation_on, lens_on, encoders_on, capture_on, values_on}
 use Rattle.items.specs.After.{after}
 use Rattle.arri_alexa35.specs.Items.{item_of, in_set, in_sets}
 
@@ -41,3 +45,14 @@ module _ {A : Type 0} (on : A → Said → A) where
       pub sets_more : after on k (sets_from s p) ≡ after on (after on k (in_set (value_of s i))) (sets_from s q)
       unfolding in_sets
       sets_more = rw (one_more 16 true s p i q e) (after-append k (in_set (value_of s i)) (sets_from s q))
+
+-- an item without a number leaves the values as they were
+passed : (k : Values) (v : List ℕ) → values_on k (said None v) ≡ k
+unfolding values_on orientation_on lens_on encoders_on capture_on erases keeps
+passed k v = refl
+
+pub set_passed : (k : Values) (s : List ℕ) (p : ℕ) (i : Item) (q : ℕ) → item_step 16 true s p ≡ found i q → number_in i.key ≡ None
+    → after values_on k (set_from s p) ≡ after values_on k (set_from s q)
+set_passed k s p i q e h =
+    let gone : values_on k (item_of s i) ≡ k = rw h (passed k (value_of s i)) in
+    rw gone at (set_more values_on k s p i q e)

@@ -21,7 +21,9 @@ fn after_set(values: Values, set: &[u8]) -> Values
     let mut k = values;
     let mut items = Run { at: 0 };
     while let Some((i, next)) = items.step(set) {
-        k = values_on(k, number_in(i.label(set)), i.bytes(set));
+        if let Some(n) = number_in(i.label(set)) {
+            k = values_on(k, u64::from(n), i.bytes(set));
+        }
         items = next;
     }
     k

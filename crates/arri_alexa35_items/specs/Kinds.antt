@@ -14,10 +14,10 @@ abbrev pub arri_items : List ℕ
 arri_items = 0x0e ∷ 0x17 ∷ 0x01 ∷ 0x02 ∷ []
 
 -- an item's number: bytes 12 and 13 of its key, of which the first names its set and the second the item in it;
--- 0, which is no item's number, where the key is not one of ARRI's
-unfoldable pub number_in : List ℕ → ℕ
+-- none where the key is not one of ARRI's
+unfoldable pub number_in : List ℕ → Option ℕ
 number_in key =
-    cond (beginning key_start key && beginning arri_items (take 4 (drop 8 key))) (two_at key 12) 0
+    cond (beginning key_start key && beginning arri_items (take 4 (drop 8 key))) (Some (two_at key 12)) None
 
 -- an f32, where it is finite
 unfoldable pub float_in : List ℕ → Option Float

@@ -13,16 +13,16 @@ use parts::{four_at, number, part, two_at};
 // Bytes 8 to 11 of ARRI's keys.
 const ARRI_ITEMS: [u8; 4] = *b"\x0e\x17\x01\x02";
 
-// An item's number: what bytes 12 and 13 of its key hold, or 0 where the key is not one of ARRI's.
-pub fn number_in(key: &[u8]) -> u64
+// An item's number: what bytes 12 and 13 of its key hold, where the key is one of ARRI's.
+pub fn number_in(key: &[u8]) -> Option<u16>
     ensures { result ≡ number_in key.now }
 {
     if begins(&labels::KEY_START, key) {
         if begins(&ARRI_ITEMS, part(key, 8, 4)) {
-            return u64::from(two_at(key, 12));
+            return Some(two_at(key, 12));
         }
     }
-    0
+    None
 }
 
 // The f32, where it is finite.

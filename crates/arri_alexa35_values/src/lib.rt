@@ -3,7 +3,7 @@
 // balance and ND; it doesn't erase tint, sensor rate, effective focal length or encoders.
 #![tactic(auto)]
 
-ghost use Rattle.std.specs.Prelude.{◌≡◌};
+ghost use Rattle.std.specs.Prelude.{◌≡◌, Some};
 ghost use Rattle.arri_alexa35_values.specs.Said.{said};
 ghost use Rattle.arri_alexa35_values.specs.Values.{orientation_on, lens_on, encoders_on, capture_on, values_on, none, frame_of};
 
@@ -52,7 +52,7 @@ pub struct Values {
 
 // What an item of the number and the value leaves of the orientation.
 fn orientation_on(mut k: Orientation, n: u64, v: &[u8]) -> Orientation
-    ensures { result ≡ orientation_on k (said n v.now) }
+    ensures { result ≡ orientation_on k (said (Some n) v.now) }
 {
     match n {
         0x0c03 => k.tilt = float_in(v),
@@ -64,7 +64,7 @@ fn orientation_on(mut k: Orientation, n: u64, v: &[u8]) -> Orientation
 
 // What it leaves of the lens's configuration.
 fn lens_on(mut k: Lens, n: u64, v: &[u8]) -> Lens
-    ensures { result ≡ lens_on k (said n v.now) }
+    ensures { result ≡ lens_on k (said (Some n) v.now) }
 {
     match n {
         0x0d01 => k.metric = distance_in(false, v),
@@ -79,7 +79,7 @@ fn lens_on(mut k: Lens, n: u64, v: &[u8]) -> Lens
 
 // What it leaves of the encoders, in this camera's order: focus, iris, zoom.
 fn encoders_on(mut k: Encoders, n: u64, v: &[u8]) -> Encoders
-    ensures { result ≡ encoders_on k (said n v.now) }
+    ensures { result ≡ encoders_on k (said (Some n) v.now) }
 {
     match n {
         0x0d07 => k.focus_lds = whole_in(v).or(k.focus_lds),
@@ -95,7 +95,7 @@ fn encoders_on(mut k: Encoders, n: u64, v: &[u8]) -> Encoders
 
 // What it leaves of the frame's capture.
 fn capture_on(mut k: Capture, n: u64, v: &[u8]) -> Capture
-    ensures { result ≡ capture_on k (said n v.now) }
+    ensures { result ≡ capture_on k (said (Some n) v.now) }
 {
     match n {
         0x0e01 => k.exposure_time = exposure_in(v),
@@ -111,7 +111,7 @@ fn capture_on(mut k: Capture, n: u64, v: &[u8]) -> Capture
 
 // What it leaves of the values.
 pub fn values_on(k: Values, n: u64, v: &[u8]) -> Values
-    ensures { result ≡ values_on k (said n v.now) }
+    ensures { result ≡ values_on k (said (Some n) v.now) }
 {
     Values {
         orientation: orientation_on(k.orientation, n, v),

@@ -30,12 +30,12 @@ or_ends (Some p) b e x y = x
 or_ends None b e x y = y
 
 -- of a part, seen from the whole
-pub part_ends : (s : List ℕ) (from n : ℕ) (b : Option ℕ) → from ≤ length s → Ends b (length (take n (drop from s))) → Ends (placed_at from b) (length s)
+pub part_ends : (s : List ℕ) (from n : ℕ) (b : Option ℕ) → Ends b (length (take n (drop from s))) → Ends (placed_at from b) (length s)
 unfolding placed_at
-part_ends s from n (Some q) h x p z =
+part_ends s from n (Some q) x p z =
     let y : from + q ≡ p = cc in
     omega (arith, simp (length-take, length-drop) at (x q refl))
-part_ends s from n None h x p z = no_block p z
+part_ends s from n None x p z = no_block p z
 
 module _ (key : ℕ) (ber : Bool) (s : List ℕ) where
   -- whoever looks into whole items
@@ -81,7 +81,7 @@ unfolding in_run run_of list_from in_run_item
 run_ends s =
     first_ends 16 true s (in_run_item s)
     (λ i h. cond-ends (same_label i.key lens_unit_set) _ _ (length s)
-    (part_ends s i.klv.value i.klv.len _ (omega arith) (set-ends (value_of s i))) no_block)
+    (part_ends s i.klv.value i.klv.len _ (set-ends (value_of s i))) no_block)
     _ 0
 
 pub block_ends : (s : List ℕ) → Ends (block_of s) (length s)
@@ -89,7 +89,7 @@ unfolding block_of items_of list_from in_element_item
 block_ends s =
     first_ends 1 false s (in_element_item s)
     (λ i h. cond-ends (eqb (tag_of i) 0x88) _ _ (length s)
-    (part_ends s i.klv.value i.klv.len _ (omega arith) (run_ends (value_of s i))) no_block)
+    (part_ends s i.klv.value i.klv.len _ (run_ends (value_of s i))) no_block)
     _ 0
 
 -- a block that is found has its 256 bytes

@@ -4,7 +4,7 @@
 // before one, or none at all: nothing.
 #![tactic(auto)]
 
-ghost use Rattle.std.specs.Prelude.{◌≡◌, ◌+◌, ◌≤◌, ◌^◌, length};
+ghost use Rattle.std.specs.Prelude.{◌≡◌, ◌^◌};
 ghost use Rattle.klv.specs.Item.{item};
 ghost use Rattle.arri_block.specs.Block.{placed_at, first_bytes, in_set, in_run_item, in_run, in_element_item, block_of, bytes_of, Ends};
 
@@ -51,13 +51,10 @@ fn in_set(s: &[u8]) -> Option<usize>
 // The block that a run's item gives, where it is a lens unit set. The byte at 7 doesn't count, as in `same_label`; `agree_but` itself is
 // called, since the compiler takes it in where a label is constant.
 fn in_run_item(s: &[u8], k: Klv) -> Option<usize>
-    requires { k.value + k.len ≤ length s.now }
     ensures { result ≡ in_run_item s.now (item 16 s.now k) }
 {
     if labels::agree_but(k.label(s), &LENS_UNIT_SET, 7, 7, 7) {
-        let value = k.value;
-        let end = value + k.len;
-        placed_at(value, in_set(&s[value..end]))
+        placed_at(k.value, in_set(k.bytes(s)))
     } else {
         None
     }
@@ -79,13 +76,10 @@ fn in_run(s: &[u8]) -> Option<usize>
 
 // The block that an element's item gives, where it is an 88h one.
 fn in_element_item(s: &[u8], k: Klv) -> Option<usize>
-    requires { k.value + k.len ≤ length s.now }
     ensures { result ≡ in_element_item s.now (item 1 s.now k) }
 {
     if one_at(s, k.at) == 0x88 {
-        let value = k.value;
-        let end = value + k.len;
-        placed_at(value, in_run(&s[value..end]))
+        placed_at(k.value, in_run(k.bytes(s)))
     } else {
         None
     }

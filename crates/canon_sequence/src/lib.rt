@@ -2,12 +2,12 @@
 // bytes, 3C0Ah and 4401h are the item's bytes; the last one stands.
 #![tactic(auto)]
 
-ghost use Rattle.std.specs.Prelude.{◌≡◌, ◌+◌, ◌≤◌, length};
+ghost use Rattle.std.specs.Prelude.{◌≡◌};
 ghost use Rattle.canon_sequence.specs.Sequence.{position_after, identifier_after, fields_after, empty, sequence_of};
 
 use items::{Coding, Local};
 use klv::Klv;
-use parts::{number_at, two_at};
+use parts::{number, two_at};
 
 // What a sequence info says: identifiers, each the value's bytes of an item, and places in the clip.
 #[derive(Clone, Copy, Default)]
@@ -18,16 +18,15 @@ pub struct Sequence {
     pub start_position: Option<i64>,
 }
 
-// A position after an item with a tag.
+// A position after an item with a tag and a value.
 #[tactic(auto, unfolding(crate::specs::Sequence::position_after))]
-fn position_after(s: &[u8], tag: u16, k: Klv, field: u16, old: Option<i64>) -> Option<i64>
-    requires { k.value + k.len ≤ length s.now }
-    ensures { result ≡ position_after s.now tag k field old }
+fn position_after(value: &[u8], tag: u16, field: u16, old: Option<i64>) -> Option<i64>
+    ensures { result ≡ position_after value.now tag field old }
 {
-    if tag != field || k.len != 8 {
+    if tag != field || value.len() != 8 {
         return old;
     }
-    Some(signed::signed64(number_at(s, k.value, 8)))
+    Some(signed::signed64(number(value)))
 }
 
 // An identifier after an item with a tag.
@@ -38,17 +37,16 @@ fn identifier_after(tag: u16, k: Klv, field: u16, old: Option<Klv>) -> Option<Kl
     if tag == field { Some(k) } else { old }
 }
 
-// The fields after an item with a tag.
+// The fields after an item with a tag and a value.
 #[tactic(auto, unfolding(crate::specs::Sequence::fields_after))]
-fn fields_after(s: &[u8], tag: u16, k: Klv, q: Sequence) -> Sequence
-    requires { k.value + k.len ≤ length s.now }
-    ensures { result ≡ fields_after s.now tag k q }
+fn fields_after(value: &[u8], tag: u16, k: Klv, q: Sequence) -> Sequence
+    ensures { result ≡ fields_after value.now tag k q }
 {
     Sequence {
         instance_uid: identifier_after(tag, k, 0x3c0a, q.instance_uid),
         package_uid: identifier_after(tag, k, 0x4401, q.package_uid),
-        start_timecode: position_after(s, tag, k, 0x1501, q.start_timecode),
-        start_position: position_after(s, tag, k, 0x1201, q.start_position),
+        start_timecode: position_after(value, tag, 0x1501, q.start_timecode),
+        start_position: position_after(value, tag, 0x1201, q.start_position),
     }
 }
 
@@ -66,7 +64,7 @@ pub fn read(s: &[u8]) -> Sequence
     let mut q = empty();
     let mut items = Local { at: 0 };
     while let Some((k, next)) = items.step(s, Coding::TWO_TWO) {
-        q = fields_after(s, two_at(s, k.at), k, q);
+        q = fields_after(k.bytes(s), two_at(s, k.at), k, q);
         items = next;
     }
     q

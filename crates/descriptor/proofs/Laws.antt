@@ -8,33 +8,32 @@ use borrow.Author.Tests.{le-leb, lt-leb, leb-true, eq-eqb, ne_eqb}
 use lib.ListN.{length}
 use lib.Dec.{leb, eqb}
 use Rattle.steps.specs.Told.{nothing}
-use Rattle.klv.specs.declared.Klv.{Klv}
 use Rattle.items.specs.Items.{item_step}
 use Rattle.items.proofs.Going.{Going, going_end}
 use Rattle.descriptor.specs.declared.Descriptor.{Descriptor}
 use Rattle.descriptor.specs.Fields.{holds, fields_on, empty}
 use Rattle.descriptor.specs.Descriptor.{done, refused, items_end, descriptor_told}
 
-module _ (tag : ℕ) (k : Klv) (field n : ℕ) where
-  pub other_tag : (tag ≡ field → ⊥) → holds tag k field n ≡ false
+module _ (value : List ℕ) (tag field n : ℕ) where
+  pub other_tag : (tag ≡ field → ⊥) → holds value tag field n ≡ false
   unfolding holds
   other_tag h = simp (ne_eqb _ _ h)
 
   module _ (e : tag ≡ field) where
-    pub too_long : 8 < k.len → holds tag k field n ≡ false
+    pub too_long : 8 < length value → holds value tag field n ≡ false
     unfolding holds
     too_long h = simp (eq-eqb _ _ e, lt-leb _ _ h)
 
-    pub long_enough : k.len ≤ 8 → holds tag k field n ≡ leb n k.len
+    pub long_enough : length value ≤ 8 → holds value tag field n ≡ leb n (length value)
     unfolding holds
     long_enough h = simp (eq-eqb _ _ e, le-leb _ _ h)
 
   -- then its first n bytes are there
-  pub there : holds tag k field n ≡ true → (n ≤ k.len) × (k.len ≤ 8)
+  pub there : holds value tag field n ≡ true → (n ≤ length value) × (length value ≤ 8)
   unfolding holds
-  there e = go (eqb tag field) (leb k.len 8) refl (leb n k.len) refl e
+  there e = go (eqb tag field) (leb (length value) 8) refl (leb n (length value)) refl e
     where
-      go : (a b : Bool) → leb k.len 8 ≡ b → (c : Bool) → leb n k.len ≡ c → a && (b && c) ≡ true → (n ≤ k.len) × (k.len ≤ 8)
+      go : (a b : Bool) → leb (length value) 8 ≡ b → (c : Bool) → leb n (length value) ≡ c → a && (b && c) ≡ true → (n ≤ length value) × (length value ≤ 8)
       go true true x true y e = (leb-true _ _ y, leb-true _ _ x)
       go true true x false y e = let z : ◌≡◌ {A = ℕ} 0 1 = cc in absurd (omega arith)
       go true false x c y e = let z : ◌≡◌ {A = ℕ} 0 1 = cc in absurd (omega arith)

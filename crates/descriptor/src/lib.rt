@@ -4,12 +4,11 @@
 // `sony/mxf.rs`.
 #![tactic(auto)]
 
-ghost use Rattle.std.specs.Prelude.{◌≡◌, ◌+◌, ◌≤◌, ◌<◌, length};
+ghost use Rattle.std.specs.Prelude.{◌≡◌, ◌<◌};
 ghost use Rattle.descriptor.specs.Fields.{holds, whole_after, finite_rate, rate_after, area_after, fields_after};
 ghost use Rattle.descriptor.specs.Descriptor.{told, descriptor_told};
 
 use items::{Coding, Local};
-use klv::Klv;
 use parts::{four_at, number_at, two_at};
 
 // A part of the picture: its size and where it begins.
@@ -38,26 +37,25 @@ pub struct Descriptor {
     pub color_range: Option<u64>,
 }
 
-// Whether an item with a tag is a field's of n bytes.
-fn holds(tag: u16, k: Klv, field: u16, n: usize) -> bool
-    ensures { result ≡ holds tag k field n }
+// Whether an item with a tag and a value is a field's of n bytes.
+fn holds(value: &[u8], tag: u16, field: u16, n: usize) -> bool
+    ensures { result ≡ holds value.now tag field n }
 {
     if tag != field {
         return false;
     }
-    if 8 < k.len {
+    if 8 < value.len() {
         return false;
     }
-    n <= k.len
+    n <= value.len()
 }
 
 // A field of n bytes after an item.
-fn whole_after(s: &[u8], tag: u16, k: Klv, field: u16, n: usize, old: Option<u64>) -> Option<u64>
-    requires { k.value + k.len ≤ length s.now }
-    ensures { result ≡ whole_after s.now tag k field n old }
+fn whole_after(value: &[u8], tag: u16, field: u16, n: usize, old: Option<u64>) -> Option<u64>
+    ensures { result ≡ whole_after value.now tag field n old }
 {
-    if holds(tag, k, field, n) {
-        return Some(number_at(s, k.value, n));
+    if holds(value, tag, field, n) {
+        return Some(number_at(value, 0, n));
     }
     old
 }
@@ -70,48 +68,45 @@ fn finite_rate(x: f64) -> Option<f64>
 }
 
 // A rate after an item.
-fn rate_after(s: &[u8], tag: u16, k: Klv, field: u16, old: Option<f64>) -> Option<f64>
-    requires { k.value + k.len ≤ length s.now }
-    ensures { result ≡ rate_after s.now tag k field old }
+fn rate_after(value: &[u8], tag: u16, field: u16, old: Option<f64>) -> Option<f64>
+    ensures { result ≡ rate_after value.now tag field old }
 {
-    if holds(tag, k, field, 8) {
-        let at = k.value;
-        return finite_rate(floats::ratio(four_at(s, at), four_at(s, at + 4)));
+    if holds(value, tag, field, 8) {
+        return finite_rate(floats::ratio(four_at(value, 0), four_at(value, 4)));
     }
     old
 }
 
 // An area after an item: its tags follow each other.
-fn area_after(s: &[u8], tag: u16, k: Klv, first: u16, old: Area) -> Area
-    requires { (k.value + k.len ≤ length s.now) × (first < 65532) }
-    ensures { result ≡ area_after s.now tag k first old }
+fn area_after(value: &[u8], tag: u16, first: u16, old: Area) -> Area
+    requires { first < 65532 }
+    ensures { result ≡ area_after value.now tag first old }
 {
     Area {
-        height: whole_after(s, tag, k, first, 4, old.height),
-        width: whole_after(s, tag, k, first + 1, 4, old.width),
-        x_offset: whole_after(s, tag, k, first + 2, 4, old.x_offset),
-        y_offset: whole_after(s, tag, k, first + 3, 4, old.y_offset),
+        height: whole_after(value, tag, first, 4, old.height),
+        width: whole_after(value, tag, first + 1, 4, old.width),
+        x_offset: whole_after(value, tag, first + 2, 4, old.x_offset),
+        y_offset: whole_after(value, tag, first + 3, 4, old.y_offset),
     }
 }
 
-// The fields after an item with a tag.
-fn fields_after(s: &[u8], tag: u16, k: Klv, d: Descriptor) -> Descriptor
-    requires { k.value + k.len ≤ length s.now }
-    ensures { result ≡ fields_after s.now tag k d }
+// The fields after an item with a tag and a value.
+fn fields_after(value: &[u8], tag: u16, d: Descriptor) -> Descriptor
+    ensures { result ≡ fields_after value.now tag d }
 {
     Descriptor {
-        duration: whole_after(s, tag, k, 0x0202, 8, d.duration),
-        timecode_base: whole_after(s, tag, k, 0x1502, 2, d.timecode_base),
-        start_timecode: whole_after(s, tag, k, 0x1501, 8, d.start_timecode),
-        drop_frame: whole_after(s, tag, k, 0x1503, 1, d.drop_frame),
-        sample_rate: rate_after(s, tag, k, 0x3001, d.sample_rate),
-        container_duration: whole_after(s, tag, k, 0x3002, 8, d.container_duration),
-        stored_height: whole_after(s, tag, k, 0x3202, 4, d.stored_height),
-        stored_width: whole_after(s, tag, k, 0x3203, 4, d.stored_width),
-        sampled: area_after(s, tag, k, 0x3204, d.sampled),
-        display: area_after(s, tag, k, 0x3208, d.display),
-        aspect_ratio: rate_after(s, tag, k, 0x320e, d.aspect_ratio),
-        color_range: whole_after(s, tag, k, 0x3306, 4, d.color_range),
+        duration: whole_after(value, tag, 0x0202, 8, d.duration),
+        timecode_base: whole_after(value, tag, 0x1502, 2, d.timecode_base),
+        start_timecode: whole_after(value, tag, 0x1501, 8, d.start_timecode),
+        drop_frame: whole_after(value, tag, 0x1503, 1, d.drop_frame),
+        sample_rate: rate_after(value, tag, 0x3001, d.sample_rate),
+        container_duration: whole_after(value, tag, 0x3002, 8, d.container_duration),
+        stored_height: whole_after(value, tag, 0x3202, 4, d.stored_height),
+        stored_width: whole_after(value, tag, 0x3203, 4, d.stored_width),
+        sampled: area_after(value, tag, 0x3204, d.sampled),
+        display: area_after(value, tag, 0x3208, d.display),
+        aspect_ratio: rate_after(value, tag, 0x320e, d.aspect_ratio),
+        color_range: whole_after(value, tag, 0x3306, 4, d.color_range),
     }
 }
 
@@ -124,15 +119,13 @@ pub fn read(s: &[u8]) -> Result<Descriptor, ItemPastSet>
     ensures { told result ≡ descriptor_told s.now }
 {
     let mut d = Descriptor::default();
-    let mut at = 0;
-    loop {
-        let Some((k, next)) = (Local { at }).step(s, Coding::TWO_TWO) else {
-            if s.len() - at < 4 {
-                return Ok(d);
-            }
-            return Err(ItemPastSet);
-        };
-        d = fields_after(s, two_at(s, k.at), k, d);
-        at = next.at;
+    let mut items = Local { at: 0 };
+    while let Some((k, next)) = items.step(s, Coding::TWO_TWO) {
+        d = fields_after(k.bytes(s), two_at(s, k.at), d);
+        items = next;
     }
+    if s.len() - items.at < 4 {
+        return Ok(d);
+    }
+    Err(ItemPastSet)
 }

@@ -34,7 +34,8 @@ pub enum Kind {
     Only(Recorder),
 }
 
-// What a recorder has of a frame: its mark and its values.
+// What a recorder has of a frame: its mark and its values. They stand side by side, since `compare` promises an answer on a marked
+// frame with values too.
 #[derive(Clone, Copy, Debug, PartialEq)]
 pub struct Recorded {
     pub overlong: bool,

@@ -127,14 +127,16 @@ impl Takes {
             return Err(EndTooLarge::Second);
         }
         let mut t = self;
-        loop {
-            let x = next_of(main, main_end, t.main, t.number);
-            let y = next_of(backup, backup_end, t.backup, t.number);
-            match meet(t, x, y) {
-                Some((Some(d), u)) => return Ok(Some((d, u))),
-                Some((None, u)) => t = u,
-                None => return Ok(None),
+        while let Some((found, u)) = meet(
+            t,
+            next_of(main, main_end, t.main, t.number),
+            next_of(backup, backup_end, t.backup, t.number),
+        ) {
+            if let Some(d) = found {
+                return Ok(Some((d, u)));
             }
+            t = u;
         }
+        Ok(None)
     }
 }

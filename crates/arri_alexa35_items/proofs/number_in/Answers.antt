@@ -15,7 +15,7 @@ is-item c = c.begins-then-begins.ensures ∙ ap (beginning arri_items) c.part.en
 pub returns-then-begins-2 : goal.returns-then-begins-2
 unfolding number_in
 returns-then-begins-2 c =
-    simp (sym (is_key (goal.at.returns-then-begins-2 c).After-begins) ∙ c.if-begins.true, sym (is-item (goal.at.returns-then-begins-2 c).After-begins-then-begins) ∙ c.if-begins-2.true, c.from.ensures, c.two_at.ensures)
+    simp (sym (is_key (goal.at.returns-then-begins-2 c).After-begins) ∙ c.if-begins.true, sym (is-item (goal.at.returns-then-begins-2 c).After-begins-then-begins) ∙ c.if-begins-2.true, c.two_at.ensures)
 
 pub returns-else-begins-2 : goal.returns-else-begins-2
 unfolding number_in

@@ -26,9 +26,6 @@ pub returns : goal.returns
 returns c =
     sym (first-end 1 false _ _ _ (local_end 1 false _ _ _ c.step.ensures c.in_default.is)) ∙ c.loop-k.invariant
 
-pub in_element_item-requires : goal.in_element_item-requires
-in_element_item-requires c = omega (arith, item-fits 1 false _ _ _ _ (is_found (goal.at.in_element_item-requires c).In-Some))
-
 pub returns-in-Some-in_element_item : goal.returns-in-Some-in_element_item
 returns-in-Some-in_element_item c =
     sym c.in-Some-in_element_item.is ∙ c.in_element_item.ensures ∙ sym (first_hit 1 false _ _ _ _ (is_found (goal.at.returns-in-Some-in_element_item c).In-Some) _ _ (sym c.in_element_item.ensures ∙ c.in-Some-in_element_item.is)) ∙ c.loop-k.invariant

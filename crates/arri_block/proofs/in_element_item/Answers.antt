@@ -1,6 +1,5 @@
 -- `arri_block::in_element_item` meets its contract: the branch is the definition's, and the block lies in the item.
 use mathlib.Core.Path.{◌≡◌, sym, ap, ◌∙◌}
-use native.Mathlib.Nat.{add-sub_cancel_left}
 use native.Mathlib.Omega.{arith}
 use borrow.Author.Tests.{eq-eqb, ne_eqb}
 use lib.ListN.{take, drop}
@@ -11,11 +10,11 @@ use Rattle.arri_block.proofs.in_element_item.Goals as goal
 use Rattle.arri_block.proofs.in_element_item.Goals.{After-in_run}
 
 is_block : (c : goal.After-in_run) → c.in_run.result ≡ in_run (take c.args.k.len (drop c.args.k.value c.args.s.now))
-is_block c = rw add-sub_cancel_left at c.in_run.ensures
+is_block c = c.in_run.ensures ∙ ap in_run c.bytes.ensures
 
 pub placed_at-requires : goal.placed_at-requires
 placed_at-requires c = λ p e.
-    omega (arith, part_ends c.args.s.now c.args.k.value c.args.k.len _ (omega (arith, c.requires)) (run_ends (take c.args.k.len (drop c.args.k.value c.args.s.now))) p (ap (placed_at c.args.k.value) (sym (is_block (goal.at.placed_at-requires c).After-in_run)) ∙ e))
+    omega (arith, part_ends c.args.s.now c.args.k.value c.args.k.len _ (run_ends (take c.args.k.len (drop c.args.k.value c.args.s.now))) p (ap (placed_at c.args.k.value) (sym (is_block (goal.at.placed_at-requires c).After-in_run)) ∙ e))
 
 pub returns-then-one_at : goal.returns-then-one_at
 unfolding in_element_item one_at

@@ -26,9 +26,6 @@ pub returns : goal.returns
 returns c =
     sym (first-end 16 true _ _ _ (run_end _ _ _ c.step.ensures c.in_default.is)) ∙ c.loop-k.invariant
 
-pub in_run_item-requires : goal.in_run_item-requires
-in_run_item-requires c = omega (arith, item-fits 16 true _ _ _ _ (is_found (goal.at.in_run_item-requires c).In-Some))
-
 pub returns-in-Some-in_run_item : goal.returns-in-Some-in_run_item
 returns-in-Some-in_run_item c =
     sym c.in-Some-in_run_item.is ∙ c.in_run_item.ensures ∙ sym (first_hit 16 true _ _ _ _ (is_found (goal.at.returns-in-Some-in_run_item c).In-Some) _ _ (sym c.in_run_item.ensures ∙ c.in-Some-in_run_item.is)) ∙ c.loop-k.invariant

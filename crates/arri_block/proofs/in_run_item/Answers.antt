@@ -2,7 +2,6 @@
 use Prim.Native.Nat.{ℕ}
 use mathlib.Core.List.{List}
 use mathlib.Core.Path.{◌≡◌, sym, ap, ◌∙◌}
-use native.Mathlib.Nat.{add-sub_cancel_left}
 use native.Mathlib.Omega.{arith}
 use lib.ListN.{take, drop}
 use Rattle.labels.specs.Label.{same_label, label_at}
@@ -15,11 +14,11 @@ is_same : (c : goal.After-agree_but) → c.agree_but.result ≡ same_label (labe
 is_same c = c.agree_but.ensures ∙ ap (λ (l : List ℕ). same_label l lens_unit_set) c.label.ensures
 
 is_block : (c : goal.After-in_set) → c.in_set.result ≡ in_set (take c.args.k.len (drop c.args.k.value c.args.s.now))
-is_block c = rw add-sub_cancel_left at c.in_set.ensures
+is_block c = c.in_set.ensures ∙ ap in_set c.bytes.ensures
 
 pub placed_at-requires : goal.placed_at-requires
 placed_at-requires c = λ p e.
-    omega (arith, part_ends c.args.s.now c.args.k.value c.args.k.len _ (omega (arith, c.requires)) (set-ends (take c.args.k.len (drop c.args.k.value c.args.s.now))) p (ap (placed_at c.args.k.value) (sym (is_block (goal.at.placed_at-requires c).After-in_set)) ∙ e))
+    omega (arith, part_ends c.args.s.now c.args.k.value c.args.k.len _ (set-ends (take c.args.k.len (drop c.args.k.value c.args.s.now))) p (ap (placed_at c.args.k.value) (sym (is_block (goal.at.placed_at-requires c).After-in_set)) ∙ e))
 
 pub returns-then-agree_but : goal.returns-then-agree_but
 unfolding in_run_item

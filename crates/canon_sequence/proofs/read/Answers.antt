@@ -1,5 +1,4 @@
 -- `canon_sequence::read` meets its contract. The loop's invariant: the items from the cursor on give what all of them give.
-use Prim.Native.Nat.{◌-◌}
 use mathlib.Core.Path.{◌≡◌, sym}
 use mathlib.Core.Bool.{false}
 use native.Mathlib.Omega.{arith}
@@ -29,9 +28,6 @@ pub returns : goal.returns
 unfolding sequence_of
 returns c = (going_end _ _ _ _ _ _ _ c.loop-k.invariant (sym (rw c.in_default.is at c.step.ensures))).1
 
-pub fields_after-q-requires : goal.fields_after-q-requires
-fields_after-q-requires c = omega (arith, fits (goal.at.fields_after-q-requires c).In-Some)
-
 pub loop-k-smaller : goal.loop-k-smaller
 loop-k-smaller c = omega (arith, fits (goal.at.loop-k-smaller c).In-Some)
 
@@ -39,4 +35,4 @@ pub loop-k-preserved : goal.loop-k-preserved
 unfolding two_at
 loop-k-preserved c =
     let f = fits (goal.at.loop-k-preserved c).In-Some in
-    rw (c.fields_after-q.ensures, c.two_at.ensures) (going_next _ _ _ _ _ _ _ c.loop-k.invariant _ _ (is-item (goal.at.loop-k-preserved c).In-Some) (omega arith))
+    rw (c.fields_after-q.ensures, c.bytes.ensures, c.two_at.ensures) (going_next _ _ _ _ _ _ _ c.loop-k.invariant _ _ (is-item (goal.at.loop-k-preserved c).In-Some) (omega arith))

@@ -1,16 +1,6 @@
 -- `descriptor::fields_after` meets its contract, field by field.
-use native.Mathlib.Omega.{arith}
 use Rattle.descriptor.specs.Fields.{fields_after}
 use Rattle.descriptor.proofs.fields_after.Goals as goal
-
-pub area_after-requires-2 : goal.area_after-requires-2
-area_after-requires-2 c = omega (arith, c.requires)
-
-pub rate_after-requires-2 : goal.rate_after-requires-2
-rate_after-requires-2 c = omega (arith, c.requires)
-
-pub whole_after-requires-8 : goal.whole_after-requires-8
-whole_after-requires-8 c = omega (arith, c.requires)
 
 pub returns : goal.returns
 unfolding fields_after

@@ -7,8 +7,8 @@ use Rattle.descriptor.proofs.holds.Goals as goal
 pub returns-then-tag-field : goal.returns-then-tag-field
 returns-then-tag-field c = sym (other_tag _ _ _ _ c.if-tag-field.true)
 
-pub returns-then-k-gt8 : goal.returns-then-k-gt8
-returns-then-k-gt8 c = sym (too_long _ _ _ _ c.if-tag-field.false (omega arith))
+pub returns-then-value-gt8 : goal.returns-then-value-gt8
+returns-then-value-gt8 c = sym (too_long _ _ _ _ c.if-tag-field.false (omega arith))
 
 pub returns : goal.returns
 returns c = sym (long_enough _ _ _ _ c.if-tag-field.false (omega arith))

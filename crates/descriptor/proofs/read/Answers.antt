@@ -13,18 +13,17 @@ use Rattle.descriptor.proofs.read.Goals as goal
 use Rattle.descriptor.proofs.read.Goals.{In-Some, In_default}
 
 -- no whole item is left
-is-over : (c : goal.In_default) → item_step 2 false c.args.s.now c.loop-k.at ≡ nothing c.loop-k.at
-is-over c = sym c.in_default.ensures
+is-over : (c : goal.In_default) → item_step 2 false c.args.s.now c.loop-k.items.at ≡ nothing c.loop-k.items.at
+is-over c = sym (rw c.in_default.is at c.step.ensures)
 
 -- there is one
-is-item : (c : goal.In-Some) → item_step 2 false c.args.s.now c.loop-k.at
+is-item : (c : goal.In-Some) → item_step 2 false c.args.s.now c.loop-k.items.at
     ≡ found (item 2 c.args.s.now c.in-Some.k) c.in-Some.next.at
-is-item c = sym c.in-Some.ensures
+is-item c = sym (rw c.in-Some.is at c.step.ensures)
 
-fits : (c : goal.In-Some) → Fit 2 c.args.s.now c.loop-k.at
+fits : (c : goal.In-Some) → Fit 2 c.args.s.now c.loop-k.items.at
     (item 2 c.args.s.now c.in-Some.k) c.in-Some.next.at
-fits c = item-fits _ _ _ _ _ _ ((let h : item_step 2 false c.args.s.now c.loop-k.at
-    ≡ found (item 2 c.args.s.now c.in-Some.k) c.in-Some.next.at = sym c.in-Some.ensures in h))
+fits c = item-fits _ _ _ _ _ _ (is-item c)
 
 pub loop-k-init : goal.loop-k-init
 loop-k-init c =
@@ -50,14 +49,11 @@ loop-k-init c =
 pub overflow_sub-s : goal.overflow_sub-s
 overflow_sub-s c = omega (arith, c.loop-k.invariant)
 
-pub returns-then-s-at-lt4 : goal.returns-then-s-at-lt4
-returns-then-s-at-lt4 c = over _ _ _ c.loop-k.invariant (is-over (goal.at.returns-then-s-at-lt4 c).In_default) (omega arith)
+pub returns-then-s-items-lt4 : goal.returns-then-s-items-lt4
+returns-then-s-items-lt4 c = over _ _ _ c.loop-k.invariant (is-over (goal.at.returns-then-s-items-lt4 c).In_default) (omega arith)
 
-pub returns-in_default : goal.returns-in_default
-returns-in_default c = cut _ _ _ c.loop-k.invariant (is-over (goal.at.returns-in_default c).In_default) (omega (arith, c.loop-k.invariant))
-
-pub fields_after-d-requires : goal.fields_after-d-requires
-fields_after-d-requires c = omega (arith, fits (goal.at.fields_after-d-requires c).In-Some)
+pub returns : goal.returns
+returns c = cut _ _ _ c.loop-k.invariant (is-over (goal.at.returns c).In_default) (omega (arith, c.loop-k.invariant))
 
 pub loop-k-smaller : goal.loop-k-smaller
 loop-k-smaller c = omega (arith, fits (goal.at.loop-k-smaller c).In-Some)
@@ -66,4 +62,4 @@ pub loop-k-preserved : goal.loop-k-preserved
 unfolding two_at
 loop-k-preserved c =
     let f = fits (goal.at.loop-k-preserved c).In-Some in
-    rw (c.fields_after-d.ensures, c.two_at.ensures) (going_next _ _ _ _ _ _ _ c.loop-k.invariant _ _ (is-item (goal.at.loop-k-preserved c).In-Some) (omega arith))
+    rw (c.fields_after-d.ensures, c.bytes.ensures, c.two_at.ensures) (going_next _ _ _ _ _ _ _ c.loop-k.invariant _ _ (is-item (goal.at.loop-k-preserved c).In-Some) (omega arith))

@@ -7,7 +7,7 @@ use Rattle.descriptor.specs.Fields.{empty, fields_on}
 use Rattle.descriptor.proofs.read.Given as goal
 
 abbrev pub invariant-loop-k : goal.invariant-loop-k
-invariant-loop-k l = Going 2 false l.s (fields_on l.s) empty l.d l.at
+invariant-loop-k l = Going 2 false l.s (fields_on l.s) empty l.d l.items.at
 
 abbrev pub decreases-loop-k : goal.decreases-loop-k
-decreases-loop-k l = length l.s - l.at
+decreases-loop-k l = length l.s - l.items.at

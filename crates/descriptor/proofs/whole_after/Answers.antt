@@ -12,7 +12,7 @@ returns-then-holds c =
     let a = c.args in
     let h = sym c.holds.ensures ∙ c.if-holds.true in
     let w = there _ _ _ _ h in
-    simp (h, sym (c.number_at.ensures ∙ number-there a.s.now a.k.value a.n (λ i. (c.type_inv.s i).fits) (omega arith) (omega arith)))
+    simp (h, sym (c.number_at.ensures ∙ number-there a.value.now 0 a.n (λ i. (c.type_inv.value i).fits) (omega arith) (omega arith)))
 
 pub returns : goal.returns
 unfolding whole_after

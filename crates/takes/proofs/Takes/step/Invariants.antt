@@ -3,8 +3,8 @@ use Rattle.std.proofs.Common.{◌≡◌, ◌-◌}
 use Rattle.takes.specs.Takes.{next_from}
 use Rattle.takes.proofs.Takes.step.Given as goal
 
-abbrev pub invariant-loop-d : goal.invariant-loop-d
-invariant-loop-d l = next_from l.main l.main_end l.backup l.backup_end l.t ≡ next_from l.main l.main_end l.backup l.backup_end l.initial.t
+abbrev pub invariant-loop-found : goal.invariant-loop-found
+invariant-loop-found l = next_from l.main l.main_end l.backup l.backup_end l.t ≡ next_from l.main l.main_end l.backup l.backup_end l.initial.t
 
-abbrev pub decreases-loop-d : goal.decreases-loop-d
-decreases-loop-d l = l.main_end - l.t.main
+abbrev pub decreases-loop-found : goal.decreases-loop-found
+decreases-loop-found l = l.main_end - l.t.main
