@@ -51,6 +51,7 @@ pub struct Values {
 }
 
 // What an item of the number and the value leaves of the orientation.
+#[tactic(auto, unfolding(crate::specs::Values::orientation_on, crate::specs::Said::erases))]
 fn orientation_on(mut k: Orientation, n: u64, v: &[u8]) -> Orientation
     ensures { result ≡ orientation_on k (said (Some n) v.now) }
 {
@@ -63,6 +64,7 @@ fn orientation_on(mut k: Orientation, n: u64, v: &[u8]) -> Orientation
 }
 
 // What it leaves of the lens's configuration.
+#[tactic(auto, unfolding(crate::specs::Values::lens_on, crate::specs::Said::erases, crate::specs::Said::keeps))]
 fn lens_on(mut k: Lens, n: u64, v: &[u8]) -> Lens
     ensures { result ≡ lens_on k (said (Some n) v.now) }
 {
@@ -78,6 +80,7 @@ fn lens_on(mut k: Lens, n: u64, v: &[u8]) -> Lens
 }
 
 // What it leaves of the encoders, in this camera's order: focus, iris, zoom.
+#[tactic(auto, unfolding(crate::specs::Values::encoders_on, crate::specs::Said::keeps))]
 fn encoders_on(mut k: Encoders, n: u64, v: &[u8]) -> Encoders
     ensures { result ≡ encoders_on k (said (Some n) v.now) }
 {
@@ -94,6 +97,7 @@ fn encoders_on(mut k: Encoders, n: u64, v: &[u8]) -> Encoders
 }
 
 // What it leaves of the frame's capture.
+#[tactic(auto, unfolding(crate::specs::Values::capture_on, crate::specs::Said::erases, crate::specs::Said::keeps))]
 fn capture_on(mut k: Capture, n: u64, v: &[u8]) -> Capture
     ensures { result ≡ capture_on k (said (Some n) v.now) }
 {
@@ -110,6 +114,7 @@ fn capture_on(mut k: Capture, n: u64, v: &[u8]) -> Capture
 }
 
 // What it leaves of the values.
+#[tactic(auto, unfolding(crate::specs::Values::values_on))]
 pub fn values_on(k: Values, n: u64, v: &[u8]) -> Values
     ensures { result ≡ values_on k (said (Some n) v.now) }
 {
@@ -122,6 +127,7 @@ pub fn values_on(k: Values, n: u64, v: &[u8]) -> Values
 }
 
 // The values before the first item.
+#[tactic(auto, unfolding(crate::specs::Values::none))]
 pub fn none() -> Values
     ensures { result ≡ none }
 {
@@ -157,6 +163,7 @@ pub fn none() -> Values
 }
 
 // The frame that the values make: the metric distance, else the imperial one; tilt and roll as a pair or not at all.
+#[tactic(auto, unfolding(crate::specs::Values::frame_of))]
 pub fn frame_of(k: Values) -> Frame
     ensures { result ≡ frame_of k }
 {

@@ -93,7 +93,8 @@ fn after(p: Pack, id: u8, old: Option<Value>, new: Option<Value>) -> Option<Valu
     if p.id == id { put(old, new) } else { old }
 }
 
-// The lens after a pack.
+// The lens after a pack. This and the five below differ in their packs, fields and conversions: one function for all would take these
+// as a table, and be no plainer.
 pub fn lens_after(p: Pack, g: Lens) -> Lens
     ensures { result ≡ lens_after p.id (raws_of p) g }
 {

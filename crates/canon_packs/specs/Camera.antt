@@ -35,15 +35,15 @@ unfoldable pub camera_of : List ℕ → Camera
 camera_of s = after_packs s (min (get_or s 0 0) ((length s - 1) / 5))
 
 -- a pack as the code reads it: its id, its four bytes, and the numbers of its first, middle and last two and of all
-unfoldable pub pack_at : List ℕ → ℕ → Pack
-pack_at s at = record {
-  id = get_or s at 0;
-  b0 = get_or s (at + 1) 0;
-  b1 = get_or s (at + 2) 0;
-  b2 = get_or s (at + 3) 0;
-  b3 = get_or s (at + 4) 0;
-  first = two_at s (at + 1);
-  middle = two_at s (at + 2);
-  last = two_at s (at + 3);
-  whole = four_at s (at + 1);
+unfoldable pub pack_of : List ℕ → Pack
+pack_of s = record {
+  id = get_or s 0 0;
+  b0 = get_or s 1 0;
+  b1 = get_or s 2 0;
+  b2 = get_or s 3 0;
+  b3 = get_or s 4 0;
+  first = two_at s 1;
+  middle = two_at s 2;
+  last = two_at s 3;
+  whole = four_at s 1;
 }

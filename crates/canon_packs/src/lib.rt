@@ -2,9 +2,9 @@
 // many, a partial one dropped.
 #![tactic(auto)]
 
-ghost use Rattle.std.specs.Prelude.{◌≡◌, ◌+◌, ◌≤◌, length};
+ghost use Rattle.std.specs.Prelude.{◌≡◌, ◌≤◌, length};
 ghost use Rattle.canon_groups.specs.Groups.{raws_of};
-ghost use Rattle.canon_packs.specs.Camera.{pack_at, camera_after, unknown, camera_of};
+ghost use Rattle.canon_packs.specs.Camera.{pack_of, camera_after, unknown, camera_of};
 
 use canon_groups::{
     Balance, Gain, Lens, Modes, Pack, Ranges, Shutter, balance_after, gain_after, lens_after,
@@ -45,22 +45,22 @@ fn unknown() -> Camera
     Camera::default()
 }
 
-// The pack at a place.
-#[tactic(auto, unfolding(crate::specs::Camera::pack_at))]
-fn pack_at(s: &[u8], at: usize) -> Pack
-    requires { at + 5 ≤ length s.now }
-    ensures { result ≡ pack_at s.now at }
+// The pack of five bytes.
+#[tactic(auto, unfolding(crate::specs::Camera::pack_of))]
+fn pack_of(bytes: &[u8]) -> Pack
+    requires { 5 ≤ length bytes.now }
+    ensures { result ≡ pack_of bytes.now }
 {
     Pack {
-        id: s[at],
-        b0: s[at + 1],
-        b1: s[at + 2],
-        b2: s[at + 3],
-        b3: s[at + 4],
-        first: two_at(s, at + 1),
-        middle: two_at(s, at + 2),
-        last: two_at(s, at + 3),
-        whole: four_at(s, at + 1),
+        id: bytes[0],
+        b0: bytes[1],
+        b1: bytes[2],
+        b2: bytes[3],
+        b3: bytes[4],
+        first: two_at(bytes, 1),
+        middle: two_at(bytes, 2),
+        last: two_at(bytes, 3),
+        whole: four_at(bytes, 1),
     }
 }
 
@@ -72,9 +72,9 @@ pub fn read(s: &[u8]) -> Camera
     if s.is_empty() {
         return c;
     }
-    let n = usize::from(s[0]).min((s.len() - 1) / 5);
-    for i in 0..n {
-        c = camera_after(pack_at(s, 1 + 5 * i), c);
+    let count = usize::from(s[0]);
+    for pack in s[1..].chunks_exact(5).take(count) {
+        c = camera_after(pack_of(pack), c);
     }
     c
 }

@@ -13,7 +13,7 @@ use klv::Klv;
 pub const PRIVATE_CAMERA_METADATA: [u8; 16] =
     *b"\x06\x0e\x2b\x34\x01\x01\x01\x0d\x0e\x15\x00\x01\x00\x01\x00\x00";
 
-// What a turn at a cursor finds.
+// What a turn at a cursor finds: three cases, where an Option or a Result has two.
 #[derive(Clone, Copy)]
 enum Turn {
     // A value, and where its run goes on.
@@ -67,6 +67,7 @@ impl Package {
     {
         let mut end = self.end;
         let mut from = self.from.min(end);
+        // A match of three cases, which a `while let` doesn't have.
         loop {
             match turn_at(s, from, end) {
                 Turn::Value(k, next) => return Some((k, Package { from: next, end })),

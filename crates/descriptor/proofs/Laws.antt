@@ -4,7 +4,7 @@ use mathlib.Core.Path.{◌≡◌, refl}
 use mathlib.Core.List.{List}
 use mathlib.Core.Bool.{Bool, true, false, ◌&&◌}
 use native.Mathlib.Omega.{arith}
-use borrow.Author.Tests.{le-leb, lt-leb, leb-true, eq-eqb, ne_eqb}
+use borrow.Author.Tests.{le-leb, lt-leb, leb-true}
 use lib.ListN.{length}
 use lib.Dec.{leb, eqb}
 use Rattle.steps.specs.Told.{nothing}
@@ -15,20 +15,7 @@ use Rattle.descriptor.specs.Fields.{holds, fields_on, empty}
 use Rattle.descriptor.specs.Descriptor.{done, refused, items_end, descriptor_told}
 
 module _ (value : List ℕ) (tag field n : ℕ) where
-  pub other_tag : (tag ≡ field → ⊥) → holds value tag field n ≡ false
-  unfolding holds
-  other_tag h = simp (ne_eqb _ _ h)
-
-  module _ (e : tag ≡ field) where
-    pub too_long : 8 < length value → holds value tag field n ≡ false
-    unfolding holds
-    too_long h = simp (eq-eqb _ _ e, lt-leb _ _ h)
-
-    pub long_enough : length value ≤ 8 → holds value tag field n ≡ leb n (length value)
-    unfolding holds
-    long_enough h = simp (eq-eqb _ _ e, le-leb _ _ h)
-
-  -- then its first n bytes are there
+  -- a field's first n bytes are there
   pub there : holds value tag field n ≡ true → (n ≤ length value) × (length value ≤ 8)
   unfolding holds
   there e = go (eqb tag field) (leb (length value) 8) refl (leb n (length value)) refl e

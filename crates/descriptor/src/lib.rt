@@ -38,6 +38,7 @@ pub struct Descriptor {
 }
 
 // Whether an item with a tag and a value is a field's of n bytes.
+#[tactic(auto, unfolding(crate::specs::Fields::holds))]
 fn holds(value: &[u8], tag: u16, field: u16, n: usize) -> bool
     ensures { result ≡ holds value.now tag field n }
 {
@@ -51,6 +52,7 @@ fn holds(value: &[u8], tag: u16, field: u16, n: usize) -> bool
 }
 
 // A field of n bytes after an item.
+#[tactic(auto, unfolding(crate::specs::Fields::whole_after))]
 fn whole_after(value: &[u8], tag: u16, field: u16, n: usize, old: Option<u64>) -> Option<u64>
     ensures { result ≡ whole_after value.now tag field n old }
 {
@@ -61,6 +63,7 @@ fn whole_after(value: &[u8], tag: u16, field: u16, n: usize, old: Option<u64>) -
 }
 
 // A rate, or nothing where it isn't finite.
+#[tactic(auto, unfolding(crate::specs::Fields::finite_rate))]
 fn finite_rate(x: f64) -> Option<f64>
     ensures { result ≡ finite_rate x }
 {
@@ -68,6 +71,7 @@ fn finite_rate(x: f64) -> Option<f64>
 }
 
 // A rate after an item.
+#[tactic(auto, unfolding(crate::specs::Fields::rate_after))]
 fn rate_after(value: &[u8], tag: u16, field: u16, old: Option<f64>) -> Option<f64>
     ensures { result ≡ rate_after value.now tag field old }
 {
@@ -78,6 +82,7 @@ fn rate_after(value: &[u8], tag: u16, field: u16, old: Option<f64>) -> Option<f6
 }
 
 // An area after an item: its tags follow each other.
+#[tactic(auto, unfolding(crate::specs::Fields::area_after))]
 fn area_after(value: &[u8], tag: u16, first: u16, old: Area) -> Area
     requires { first < 65532 }
     ensures { result ≡ area_after value.now tag first old }
@@ -91,6 +96,7 @@ fn area_after(value: &[u8], tag: u16, first: u16, old: Area) -> Area
 }
 
 // The fields after an item with a tag and a value.
+#[tactic(auto, unfolding(crate::specs::Fields::fields_after))]
 fn fields_after(value: &[u8], tag: u16, d: Descriptor) -> Descriptor
     ensures { result ≡ fields_after value.now tag d }
 {

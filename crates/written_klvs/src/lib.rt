@@ -11,14 +11,14 @@ use items::Run;
 use text::put_all;
 use written_lengths::{WriteError, holds, place_behind, put_length, shortest};
 
-// Writes a KLV where there is room for it, its length in a form that holds it.
-fn put_parts(label: &[u8], size: usize, value: &[u8], out: &mut [u8], at: usize)
-    requires { (length label.now ≡ 16) × (holds size (length value.now) ≡ true) × (at + (16 + size + length value.now) ≤ length out.old) }
-    ensures { out.new ≡ sets out.old at (klv_bytes label.now size value.now) }
+// Writes a KLV in as many bytes as it has, its length in a form that holds it.
+fn put_parts(label: &[u8], size: usize, value: &[u8], klv: &mut [u8])
+    requires { (length label.now ≡ 16) × (holds size (length value.now) ≡ true) × (length klv.old ≡ 16 + size + length value.now) }
+    ensures { klv.new ≡ klv_bytes label.now size value.now }
 {
-    put_all(out, at, label);
-    put_length(value.len() as u64, size, out, at + 16).unwrap();
-    put_all(out, at + 16 + size, value);
+    put_all(klv, 0, label);
+    put_length(value.len() as u64, size, klv, 16).unwrap();
+    put_all(klv, 16 + size, value);
 }
 
 // Writes a KLV at a place: its label, its length in so many bytes, its value.
@@ -36,7 +36,7 @@ pub fn put_klv(
     }
     let needed = 16 + size + value.len();
     let next = place_behind(out.len(), at, needed)?;
-    put_parts(label, size, value, out, at);
+    put_parts(label, size, value, &mut out[at..next]);
     Ok(next)
 }
 
@@ -62,8 +62,9 @@ fn put_run(s: &[u8], out: &mut [u8])
     let mut run = Run { at: 0 };
     while let Some((k, next)) = run.step(s) {
         let size = shortest(k.len as u64);
-        put_parts(k.label(s), size, k.bytes(s), out, r);
-        r += 16 + size + k.len;
+        let end = r + (16 + size + k.len);
+        put_parts(k.label(s), size, k.bytes(s), &mut out[r..end]);
+        r = end;
         run = next;
     }
 }

@@ -2,14 +2,14 @@
 use Rattle.std.specs.Prelude.{Ok, Result}
 use Prim.Native.Nat.{ℕ, zero, suc, ◌+◌, ◌-◌, ◌^◌, ◌≤◌, ◌<◌}
 use mathlib.Core.Path.{◌≡◌, refl, sym, ap, ◌∙◌}
-use mathlib.Core.List.{List, [], ◌∷◌}
+use mathlib.Core.List.{List, [], ◌∷◌, ◌++◌, append_assoc, append-nil}
 use mathlib.Core.Bool.{true}
-use native.Mathlib.Nat.{mod-eq_of_lt}
+use native.Mathlib.Nat.{mod-eq_of_lt, add-sub_cancel_left}
 use native.Mathlib.Omega.{arith}
 use borrow.Author.Tests.{le-leb, eqb-true, eq-eqb}
 use lib.Dec.{lit<}
-use lib.ListN.{length, get_or, take, drop, set}
-use lib.Seq.{sets, drop-cons}
+use lib.ListN.{length, get_or, take, drop, set, drop_of_length-le}
+use lib.Seq.{sets, sets-eq, drop-drop, drop-cons}
 use Rattle.parts.specs.Number.{number_at}
 use Rattle.written_numbers.specs.Number.{bytes_of}
 use Rattle.parts.specs.Bytes.{Bytes}
@@ -43,6 +43,14 @@ form_more (suc (suc n)) v o at h =
     let z : suc (suc n) - 1 ≡ suc n = omega arith in
     let y : at + 1 ≡ suc at = omega arith in
     rw (z, y)
+
+-- a part of the room that is filled, and the room with what a part was filled with
+pub sets_all : (x o : List ℕ) → length x ≡ length o → sets o 0 x ≡ x
+sets_all x o h = sets-eq x o 0 (omega arith) ∙ rw (drop_of_length-le o {i = 0 + length x} (omega arith), append-nil)
+
+pub part_put : (x o y : List ℕ) (at n : ℕ) → at + n ≤ length o → length x ≡ n → y ≡ x → take at o ++ (y ++ drop (at + n - at) (drop at o)) ≡ sets o at x
+part_put x o y at n h l e =
+    sym (sets-eq x o at (omega arith) ∙ append_assoc (take at o) x _ ∙ rw (drop-drop, add-sub_cancel_left, l, e))
 
 -- where the form of a number stands, that length is read
 pub read_form : (t : List ℕ) (at size v : ℕ) → size ≤ 9 → v < bound_of size → Stands (form_of size v) t at → length_at t at ≡ Ok (told size v)

@@ -4,7 +4,6 @@
 #![tactic(auto)]
 
 ghost use Rattle.std.specs.Prelude.{◌≡◌, ◌+◌, ◌-◌, ◌≤◌, ◌<◌, length, MatchResult};
-ghost use Rattle.std.proofs.lemmas.List.Edits.{sets};
 ghost use Rattle.lengths.specs.Length.{bound_of};
 ghost use Rattle.written_lengths.specs.Form.{holds, shortest_size, form_of};
 ghost use Rattle.written_lengths.specs.Wrote.{Wrote};
@@ -68,18 +67,19 @@ pub fn shortest(n: u64) -> usize
     9
 }
 
-// Writes the form of so many bytes, which holds the number, where there is room for it.
-fn put_form(n: u64, size: usize, out: &mut [u8], at: usize)
-    requires { (size ≤ 9) × (n < bound_of size) × (at + size ≤ length out.old) }
-    ensures { out.new ≡ sets out.old at (form_of size n) }
+// Writes the form of as many bytes as these, which holds the number.
+fn put_form(n: u64, form: &mut [u8])
+    requires { (length form.old ≤ 9) × (n < bound_of (length form.old)) }
+    ensures { form.new ≡ form_of (length form.old) n }
 {
+    let size = form.len();
     if size < 2 {
-        out[at] = n as u8;
+        form[0] = n as u8;
         return;
     }
     let more = size - 1;
-    out[at] = 0x80 + more as u8;
-    put_number(out, at + 1, more, n);
+    form[0] = 0x80 + more as u8;
+    put_number(form, 1, more, n);
 }
 
 // Writes a number at a place as a length of so many bytes.
@@ -90,6 +90,6 @@ pub fn put_length(n: u64, size: usize, out: &mut [u8], at: usize) -> Result<usiz
         return Err(WriteError::Field);
     }
     let next = place_behind(out.len(), at, size)?;
-    put_form(n, size, out, at);
+    put_form(n, &mut out[at..next]);
     Ok(next)
 }

@@ -1,8 +1,7 @@
 // Local items with tags and lengths of 2 bytes, of which a set is made, and primers, written: docs/RULES.md, "L8. Writers".
 #![tactic(auto)]
 
-ghost use Rattle.std.specs.Prelude.{◌≡◌, ◌+◌, ◌*◌, ◌≤◌, length};
-ghost use Rattle.std.proofs.lemmas.List.Edits.{sets};
+ghost use Rattle.std.specs.Prelude.{◌≡◌, ◌*◌, length};
 ghost use Rattle.written_lengths.specs.Wrote.{Wrote};
 ghost use Rattle.written_tables.specs.Items.{good_item, local_bytes};
 ghost use Rattle.written_tables.specs.Primer.{all_tags, good_primer, entries_bytes, primer_bytes};
@@ -33,15 +32,15 @@ fn tags_fit(tags: &[u64]) -> bool
     tags.iter().all(|tag| *tag <= 0xffff)
 }
 
-// Writes a primer's entries at a place with room for them.
-fn put_entries(tags: &[u64], labels: &[u8], out: &mut [u8], at: usize)
-    requires { (length labels.now ≡ 16 * length tags.now) × (at + 18 * length tags.now ≤ length out.old) }
-    ensures { out.new ≡ sets out.old at (entries_bytes tags.now labels.now) }
+// Writes a primer's entries in as many bytes as they have.
+fn put_entries(tags: &[u64], labels: &[u8], entries: &mut [u8])
+    requires { (length labels.now ≡ 16 * length tags.now) × (length entries.old ≡ 18 * length tags.now) }
+    ensures { entries.new ≡ entries_bytes tags.now labels.now }
 {
-    let mut place = at;
+    let mut place = 0;
     for (tag, label) in tags.iter().zip(labels.chunks_exact(16)) {
-        put_number(out, place, 2, *tag);
-        put_all(out, place + 2, label);
+        put_number(entries, place, 2, *tag);
+        put_all(entries, place + 2, label);
         place += 18;
     }
 }
@@ -63,6 +62,6 @@ pub fn put_primer(
     let next = place_behind(out.len(), at, needed)?;
     put_number(out, at, 4, n as u64);
     put_number(out, at + 4, 4, 18);
-    put_entries(tags, labels, out, at + 8);
+    put_entries(tags, labels, &mut out[at + 8..next]);
     Ok(next)
 }

@@ -13,7 +13,3 @@ returns-then-holds c =
     let h = sym c.holds.ensures ∙ c.if-holds.true in
     let w = there _ _ _ _ h in
     simp (h, sym (c.number_at.ensures ∙ number-there a.value.now 0 a.n (λ i. (c.type_inv.value i).fits) (omega arith) (omega arith)))
-
-pub returns : goal.returns
-unfolding whole_after
-returns c = simp (sym c.holds.ensures ∙ c.if-holds.false)

@@ -6,5 +6,5 @@ use Rattle.written_tables.proofs.put_entries.Given as goal
 
 abbrev pub invariant-loop-tag : goal.invariant-loop-tag
 invariant-loop-tag l =
-    Putting l.tags l.labels l.initial.out l.at l.out l.place
+    Putting l.tags l.labels l.initial.entries 0 l.entries l.place
     (iter_rest (zip_first l.tag-iterator)) (chunks_exact_rest (zip_second l.tag-iterator)) (chunks_exact_size (zip_second l.tag-iterator))

@@ -1,15 +1,17 @@
 -- `written_tables::put_primer` meets its contract: each return is one of a writer's answers.
-use Prim.Native.Nat.{◌+◌, ◌*◌}
-use mathlib.Core.Path.{◌≡◌, sym, ◌∙◌}
+use Prim.Native.Nat.{ℕ, ◌+◌, ◌-◌, ◌*◌}
+use mathlib.Core.Path.{◌≡◌, sym, ap, ◌∙◌}
+use mathlib.Core.List.{◌++◌}
 use mathlib.Core.Bool.{true, false}
 use native.Mathlib.Omega.{arith}
-use lib.ListN.{length}
+use lib.ListN.{length, take, drop}
 use Rattle.std.proofs.Common.{rules}
 use Rattle.std.specs.Prelude.{Err}
 use Rattle.written_numbers.proofs.Written.{placed-there}
 use Rattle.written_lengths.specs.declared.WriteError.TheVariants.{Longer}
 use Rattle.written_lengths.proofs.Answers.{wrote-field, wrote-longer, wrote-done}
-use Rattle.written_tables.proofs.Primers.{good_many, good_labels, good_by, primer_length, primer_put}
+use Rattle.written_lengths.proofs.Forms.{part_put}
+use Rattle.written_tables.proofs.Primers.{entries-length, good_many, good_labels, good_by, primer_length, primer_put}
 use Rattle.written_tables.proofs.put_primer.Goals as goal
 use Rattle.written_tables.proofs.put_primer.Goals.{then-n-gt4294967295-via-then-n-gt4294967295, then-n-gt4294967295-via-else-n-gt4294967295+then-labels-n, then-n-gt4294967295-via-else-n-gt4294967295+else-labels-n+then-not-tags_fit}
 
@@ -35,7 +37,13 @@ returns c =
     let room = c.in_ok-next.ensures.0 in
     let one = c.put_number.ensures ∙ placed-there _ _ _ _ (omega arith) in
     let two = c.put_number-2.ensures ∙ placed-there _ _ _ _ (omega arith) in
+    let at : ℕ = c.args.at + 8 in
+    let o = c.put_number-2.new.out in
+    let n : ℕ = 18 * length c.args.tags.now in
+    let end : c.args.at + (8 + n) ≡ at + n = omega arith in
+    let part = ap (λ (e : ℕ). take at o ++ (c.put_entries.new.entries ++ drop (e - at) (drop at o))) end
+    ∙ part_put _ o _ at n (omega (arith, room, c.put_number.auto.out, c.put_number-2.auto.out)) (entries-length _ _ (omega arith)) c.put_entries.ensures in
     rw c.in_ok-next.ensures.1
     (wrote-done _ _ _ _ _ (good_by _ _ (omega arith) (omega arith) true (sym c.tags_fit.ensures ∙ c.if-not-tags_fit.false))
     (primer_length _ _ (omega arith)) room _
-    (rw (two, one) at c.put_entries.ensures ∙ primer_put _ _ _ _))
+    (part ∙ rw (two, one) (primer_put _ _ _ _)))
