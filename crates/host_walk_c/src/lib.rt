@@ -76,8 +76,7 @@ pub extern "C" fn brine_run(s: &[u8], at: usize, out: &mut [u64; 7]) -> u32
     host_walk::brine_run(s, at, out)
 }
 
-// A step over a set's items. Its match is that of brine_run, over another type: one function for both would need a closure in each, and
-// is no shorter.
+// A step over a set's items.
 #[unsafe(no_mangle)]
 pub extern "C" fn brine_item(s: &[u8], tag: usize, ber: bool, at: usize, out: &mut [u64; 7]) -> u32
     ensures value { result ≡ 0 }
