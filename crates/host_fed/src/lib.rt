@@ -88,6 +88,9 @@ fn resume(
     }
 }
 
+// That the flags are 0 or 1 stands in the five contracts that follow, and in no type: a type around the lent array is no plainer, since
+// each contract speaks of the array before and after the call, and would reach both through the type.
+
 // Takes a piece where a value is waited for: all of it, or up to the value's end. The places are put between the label's halves: the
 // compiler makes one store of eight bytes, and none of sixteen in a row.
 fn within(v: Value, state: &mut [u64; 10], piece: &[u8], label: &mut [u8; 16], out: &mut [u64; 8])

@@ -53,7 +53,7 @@ fn put_record(records: &mut [u64], at: usize, k: Klv, passed: usize)
     records[at + 5] = passed as u64;
 }
 
-// The 16 bytes of the label at a place.
+// The 16 bytes of the label at a place, where they are there: fed_states::label_at asks whether they are, at every record.
 fn label_at(s: &[u8], at: usize) -> [u8; 16]
     requires { at + 16 ≤ length s.now }
     ensures { result ≡ label_at s.now at }

@@ -2,7 +2,7 @@
 use Prim.Native.Nat.{ℕ, zero, suc, ◌+◌, ◌*◌, ◌^◌, ◌/◌, ◌%◌, ◌≤◌, ◌<◌}
 use mathlib.Core.Path.{◌≡◌, refl, sym, ap, ◌∙◌}
 use mathlib.Core.List.{List, [], ◌∷◌, ◌++◌, append-nil, append_assoc}
-use native.Mathlib.Nat.{pow-suc, one-le-pow}
+use native.Mathlib.Nat.{pow-suc, one-le-pow, div-div-eq-div-mul}
 use native.Mathlib.Omega.{arith}
 use mathlib.Core.Bool.{Bool, true, false, ◌&&◌}
 use mathlib.Core.Logic.{by_cases}
@@ -11,7 +11,10 @@ use borrow.Author.Tests.{le-leb, lt-leb, leb-true, eqb-true}
 use lib.Dec.{leb}
 use lib.ListN.{length, get_or, set, take, drop, replicate, get_or-replicate, length-append, drop_of_length-le}
 use lib.Arith.{mod-mul}
-use lib.Seq.{sets, sets-eq, set_comm, length-sets, length-take-le, take_at}
+use lib.Seq.{sets, sets-eq, length-sets, length-take-le, take_at, drop-drop}
+use Rattle.std.specs.Int.{to_be_bytes, from_be_bytes}
+use mir.Syntax.{w64}
+use borrow.Rule.Slice.PartMut.{put_mid}
 use Rattle.parts.specs.Number.{number_at}
 use Rattle.parts.proofs.Numbers.{number_moved}
 use Rattle.parts.proofs.Parts.{part_byte}
@@ -27,23 +30,29 @@ unfolding bytes_of
 bytes-length zero v = refl
 bytes-length (suc n) v = length-append (bytes_of n (v / 256)) (v % 256 ∷ []) ∙ rw (bytes-length n (v / 256)) (omega arith)
 
--- the last of some bytes may be put first
-last-first : (vs l : List ℕ) (i v : ℕ) → sets (set l (i + length vs) v) i vs ≡ sets l i (vs ++ (v ∷ []))
-last-first [] l i v = let e : i + 0 ≡ i = omega arith in rw e
-last-first (a ∷ vs) l i v =
-    let e : i + suc (length vs) ≡ suc i + length vs = omega arith in
-    ap (λ (m : List ℕ). sets m (suc i) vs) (set_comm l (i + suc (length vs)) i v a (λ z. omega arith) ∙ rw e) ∙ last-first vs (set l i a) (suc i) v
-
--- so the bytes of a number go in from the last
-pub put_less : (l : List ℕ) (at i v : ℕ) → sets (set l (at + i) (v % 256)) at (bytes_of i (v / 256)) ≡ sets l at (bytes_of (suc i) v)
+-- the library's bytes of a number, and its number of bytes, the highest first
+pub be-bytes : (n : ℕ) → to_be_bytes w64 n ≡ bytes_of 8 n
 unfolding bytes_of
-put_less l at i v = rw (bytes-length i (v / 256)) at (last-first (bytes_of i (v / 256)) l at (v % 256))
+be-bytes n = simp div-div-eq-div-mul refl
+
+be-number : (l : List ℕ) → from_be_bytes w64 l ≡ number_at l 0 8
+unfolding number_at
+be-number l = omega arith
+
+pub be-number_at : (b : List ℕ) (at : ℕ) → from_be_bytes w64 (take 8 (drop at b)) ≡ number_at b at 8
+be-number_at b at = be-number (take 8 (drop at b)) ∙ number_moved _ b 0 at 8 (λ j h. let z : 0 + j ≡ j = omega arith in rw z (part_byte b at 8 j h))
 
 -- where there is room for all of them
 module _ (n at : ℕ) (l : List ℕ) where
   pub eight-put : at + 8 ≤ length l → eight_put n at l ≡ sets l at (bytes_of 8 n)
   unfolding eight_put
   eight-put h = rw (le-leb _ _ h)
+
+  -- they are the middle of the bytes
+  pub eight-mid : (k : ℕ) (ys : List ℕ) → at + 8 ≤ length l → k ≡ 8 → ys ≡ bytes_of 8 n → put_mid at k l ys ≡ eight_put n at l
+  eight-mid k ys h q t =
+      let long = bytes-length 8 n in
+      sym (eight-put h ∙ sets-eq (bytes_of 8 n) l at (omega arith) ∙ append_assoc (take at l) (bytes_of 8 n) _ ∙ rw (drop-drop, long, q, t))
 
   pub eight_none : length l < at + 8 → l ≡ eight_put n at l
   unfolding eight_put

@@ -1,5 +1,5 @@
 -- What is said of a value that is waited for, or whose key a piece starts with. Assumes nothing.
-use Rattle.std.specs.Prelude.{Err, Ok, Result, Some, None, Option}
+use Rattle.std.specs.Prelude.{Err, Ok, Result, Some, None}
 use Rattle.std.proofs.lemmas.Option.{none-some, same_Some}
 use Prim.Native.Nat.{ℕ, ◌+◌, ◌-◌, ◌≤◌, ◌<◌}
 use mathlib.Core.Path.{◌≡◌, refl, sym, ap, ◌∙◌}

@@ -1,5 +1,5 @@
 -- The value that a key waits for.
-use Rattle.std.specs.Prelude.{ℕ, ◌+◌, List, false, cond, ◌&&◌, length, eqb, ltb, leb, Err, Ok, Result, Some, None, Option}
+use Rattle.std.specs.Prelude.{ℕ, ◌+◌, List, cond, ◌&&◌, length, eqb, ltb, leb, Err, Ok, Result, Some, None, Option}
 use Rattle.lengths.specs.declared.Field.{Field}
 use Rattle.lengths.specs.declared.NoLength.{NoLength}
 use Rattle.lengths.specs.declared.NoLength.TheVariants.{Cut, Invalid}

@@ -37,11 +37,9 @@ fn eight_at(b: &[u8], at: usize) -> u64
     requires { at + 8 ≤ length b.now }
     ensures { result ≡ number_at b.now at 8 }
 {
-    let mut n = 0;
-    for i in 0..8 {
-        n = n * 256 + u64::from(b[at + i]);
-    }
-    n
+    let mut eight = [0u8; 8];
+    eight.copy_from_slice(&b[at..at + 8]);
+    u64::from_be_bytes(eight)
 }
 
 // The same, 0 where they are not all there.
@@ -67,11 +65,7 @@ pub fn put_eight(b: &mut [u8], at: usize, n: u64)
     if b.len() - 8 < at {
         return;
     }
-    let mut rest = n;
-    for i in (0..8).rev() {
-        b[at + i] = (rest % 256) as u8;
-        rest /= 256;
-    }
+    b[at..at + 8].copy_from_slice(&n.to_be_bytes());
 }
 
 // The label that two numbers hold.

@@ -19,7 +19,8 @@ use klv::Klv;
 use lengths::NoLength;
 use walk::{Cursor, Step, WalkError};
 
-// Puts what a step found: a KLV, and the next cursor.
+// Puts what a step found: a KLV, and the next cursor. brine_run and brine_item have the same match around it, over two types: one
+// function for both would need a closure in each, and is no shorter.
 fn put(k: Klv, next: usize, out: &mut [u64; 7])
     ensures { out.new ≡ klv_places k next }
 {
@@ -141,8 +142,7 @@ pub extern "C" fn brine_run(s: &[u8], at: usize, out: &mut [u64; 7]) -> u32
     0
 }
 
-// A step over a set's items. Its match is that of brine_run, over another type: one function for both would need a closure in each, and
-// is no shorter.
+// A step over a set's items.
 #[unsafe(no_mangle)]
 pub extern "C" fn brine_item(s: &[u8], tag: usize, ber: bool, at: usize, out: &mut [u64; 7]) -> u32
     ensures value { result ≡ 0 }
