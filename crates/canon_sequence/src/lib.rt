@@ -10,7 +10,7 @@ use klv::Klv;
 use parts::{number, two_at};
 
 // What a sequence info says: identifiers, each the value's bytes of an item, and places in the clip.
-#[derive(Clone, Copy, Default)]
+#[derive(Clone, Copy, Debug, Default, PartialEq, Eq)]
 pub struct Sequence {
     pub instance_uid: Option<Klv>,
     pub package_uid: Option<Klv>,

@@ -14,7 +14,7 @@ pub const PRIVATE_CAMERA_METADATA: [u8; 16] =
     *b"\x06\x0e\x2b\x34\x01\x01\x01\x0d\x0e\x15\x00\x01\x00\x01\x00\x00";
 
 // What a turn at a cursor finds: three cases, where an Option or a Result has two.
-#[derive(Clone, Copy)]
+#[derive(Clone, Copy, Debug, PartialEq, Eq)]
 enum Turn {
     // A value, and where its run goes on.
     Value(Klv, usize),

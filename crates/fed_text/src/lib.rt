@@ -31,7 +31,7 @@ fn put_line(out: &mut [u8], at: usize, label: &[u8; 16], k: Klv, passed: usize) 
 }
 
 // The state behind a piece, how many records it had, and the place after their lines.
-#[derive(Clone, Copy)]
+#[derive(Clone, Copy, Debug, PartialEq, Eq)]
 pub struct Lines {
     pub state: State,
     pub records: usize,

@@ -31,7 +31,7 @@ const PLACES_EACH: usize = 6;
 const LABEL: usize = 16;
 
 // Where a search starts: the place of the stream, where walking last went on, and how many bytes were taken and records put.
-#[derive(Clone, Copy)]
+#[derive(Clone, Copy, Debug, PartialEq, Eq)]
 pub struct Start {
     pub at: usize,
     pub since: usize,

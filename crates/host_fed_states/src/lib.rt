@@ -134,7 +134,7 @@ pub fn limit_of(s: &[u64; 10]) -> usize
 }
 
 // Where a search starts: at which place of the stream, and how many bytes of a piece come before it.
-#[derive(Clone, Copy)]
+#[derive(Clone, Copy, Debug, PartialEq, Eq)]
 pub struct Search {
     pub at: usize,
     pub taken: usize,
@@ -157,7 +157,7 @@ pub fn starting(s: &[u64; 10], piece: &[u8]) -> Search
 }
 
 // A value that is waited for: with how many bytes from its key on it is whole, its end, and the record that it is then.
-#[derive(Clone, Copy)]
+#[derive(Clone, Copy, Debug, PartialEq, Eq)]
 pub struct Value {
     pub due: usize,
     pub next: usize,

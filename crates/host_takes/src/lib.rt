@@ -13,7 +13,7 @@ use take_frames::{Kind, Recorder};
 use takes::Takes;
 
 // What differs, the side that has it, and the fields that differ, by numbers, as the C interface hands them out.
-#[derive(Clone, Copy)]
+#[derive(Clone, Copy, Debug, PartialEq, Eq)]
 pub struct What {
     pub what: u64,
     pub side: u64,
@@ -21,7 +21,7 @@ pub struct What {
 }
 
 // The values of both sides.
-#[derive(Clone, Copy)]
+#[derive(Clone, Copy, Debug, PartialEq, Eq)]
 pub struct Sides {
     pub main: Option<Frame>,
     pub backup: Option<Frame>,

@@ -68,7 +68,7 @@ struct Rooms {
 }
 
 // A walk as it goes: its state, the records so far, and whether it was wound back.
-#[derive(Clone, Copy)]
+#[derive(Clone, Copy, Debug, PartialEq, Eq)]
 struct Walk {
     state: State,
     records: usize,
