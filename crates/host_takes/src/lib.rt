@@ -21,7 +21,7 @@ pub struct What {
 }
 
 // The values of both sides.
-#[derive(Clone, Copy, Debug, PartialEq, Eq)]
+#[derive(Clone, Copy, Debug, PartialEq)]
 pub struct Sides {
     pub main: Option<Frame>,
     pub backup: Option<Frame>,
