@@ -1,6 +1,6 @@
 -- A recorder's file as it is read: docs/RULES.md, "L14. Two recordings of one take". What the system answers stands for itself: a
 -- contract says what is made of it.
-use Rattle.std.specs.Prelude.{◌≡◌, ℕ, ◌+◌, ◌%◌, ◌^◌, min, true, cond, Option, Some, None, Result, Ok, Err, List, length, ◌==◌}
+use Rattle.std.specs.Prelude.{◌≡◌, ℕ, ◌+◌, ◌%◌, ◌^◌, ◌≤◌, min, true, cond, Option, Some, None, Result, Ok, Err, List, length, ◌==◌}
 use Rattle.std.specs.declared.fs.File.{File}
 use Rattle.fed_states.specs.declared.State.{State}
 use Rattle.frame_walks.specs.declared.Camera.TheVariants as camera
@@ -14,7 +14,7 @@ use Rattle.tapes.specs.Frames.{read_as}
 
 -- no byte of it has been read, and its walk is ARRI's, up to its size
 abbrev pub unread_of : Option File → ℕ → Tape
-unread_of file size = record { file = file; size = size; walk = opened_frames camera.Arri size true 0; from = 0; count = 0 }
+unread_of file size = record { file = file; size = size; walk = opened_frames camera.Arri size true 0; from = 0; count = 0; met = None }
 
 -- the place of the next byte that a walk is fed
 abbrev pub place_of : State → ℕ
@@ -23,6 +23,10 @@ place_of s = (s.at + s.have) % 2 ^ 64
 -- how many bytes of a frame's element are read: none of one that is over-long
 abbrev pub needed_of : FrameElement → ℕ
 needed_of f = cond f.overlong 0 (min f.element.len 8192)
+
+-- its walk has been fed as many bytes as it has
+abbrev pub WholeFed : Tape → Type 0
+WholeFed t = t.size ≤ place_of t.walk.state
 
 -- Found at a number
 
@@ -46,6 +50,15 @@ found_by t element (Err e) = no_frame t (Err e)
 abbrev pub ReadBy : Tape → FrameElement → Found → Type 0
 ReadBy t f r = (element : List ℕ) × (r ≡ frame_by t f element)
 
--- it is found in a file that was read on to a frame, its end or trouble, by the bytes that the system gave
+-- it is found in a file that was read on to a frame, its end or trouble, by the bytes that the system gave; the file shows which it
+-- met, and its end only where its walk has been fed all of it
 abbrev pub Finds : Found → Type 0
-Finds r = (t : Tape) × (element : List ℕ) × (met : Result (Option FrameElement) Unreadable) × (r ≡ found_by t element met)
+Finds r =
+    (t : Tape) × (element : List ℕ) × (met : Result (Option FrameElement) Unreadable)
+    × (t.met ≡ Some met)
+    × (met ≡ Ok None → WholeFed t)
+    × (r ≡ found_by t element met)
+
+-- so what could not be read is no end of a file: where an end is answered, the file shows it, and its walk has been fed all of it
+abbrev pub EndShown : Type 0
+EndShown = (r : Found) → Finds r → r.side ≡ Ok None → (r.tape.met ≡ Some (Ok None)) × WholeFed r.tape

