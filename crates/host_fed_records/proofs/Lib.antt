@@ -3,3 +3,4 @@ pub mod Walking
 pub mod Walks
 pub mod Answers
 pub mod Beginning
+pub mod Parts

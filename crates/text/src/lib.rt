@@ -19,7 +19,8 @@ pub fn put_byte(out: &mut [u8], at: usize, b: u8) -> usize
     at
 }
 
-// Puts all of s.
+// Puts all of s. The bytes are stored by a loop, of which the compiler makes a copy of many at once: copy_from_slice calls libc's memmove,
+// and the library for C is to need no more of libc than it must.
 pub fn put_all(out: &mut [u8], at: usize, s: &[u8]) -> usize
     ensures { Put s.now out.old at out.new result }
 {
@@ -27,7 +28,9 @@ pub fn put_all(out: &mut [u8], at: usize, s: &[u8]) -> usize
         return at;
     }
     let n = s.len().min(out.len() - at);
-    out[at..at + n].copy_from_slice(&s[..n]);
+    for i in 0..n {
+        out[at + i] = s[i];
+    }
     at + n
 }
 

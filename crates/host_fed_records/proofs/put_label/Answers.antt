@@ -1,7 +1,6 @@
 -- `host_fed_records::put_label` puts the label's bytes one behind the other.
-use Rattle.std.proofs.Common.{◌≡◌, length, sym, ◌∙◌, arith, rules}
-use lib.Seq.{take_all}
-use Rattle.text.proofs.Putting.{put_part}
+use Rattle.std.proofs.Common.{◌≡◌, length, arith, rules}
+use Rattle.host_fed_records.proofs.Parts.{put_part}
 use Rattle.host_fed_records.proofs.put_label.Goals as goal
 use Rattle.host_fed_records.proofs.put_label.Goals.{Start}
 
@@ -11,4 +10,4 @@ length_label c = search rules
 pub returns : goal.returns
 returns c =
     let l = length_label (goal.at.returns c).Start in
-    (put_part c.args.label c.args.labels.now _ c.args.at 16 _ (omega arith) (omega arith) (omega arith) (c.copy_from_slice.ensures.after ∙ sym (take_all 16 c.args.label (omega arith)))).wrote
+    put_part c.args.label c.args.labels.now _ c.args.at _ (omega arith) (omega arith) c.copy_from_slice.ensures.after
