@@ -87,6 +87,6 @@ pub extern "C" fn brine_camera(s: &[u8], kind: &mut [u64; 32], bits: &mut [u64; 
     ensures bits_after { bits.new ≡ patterns (camera_slots (camera_of s.now)) }
 {
     let c = canon_packs::read(s);
-    put(camera_slots(c), kind, bits);
+    put(&camera_slots(c), kind, bits);
     0
 }

@@ -80,7 +80,7 @@ pub extern "C" fn brine_descriptor(s: &[u8], kind: &mut [u64; 32], bits: &mut [u
 {
     match descriptor::read(s) {
         Ok(d) => {
-            put(descriptor_slots(d), kind, bits);
+            put(&descriptor_slots(d), kind, bits);
             0
         }
         Err(_) => 4,

@@ -82,7 +82,7 @@ pub fn put_frame(f: Frame, kind: &mut [u64; 32], bits: &mut [u64; 32])
     ensures kind_after { kind.new ≡ kinds (frame_slots f) }
     ensures bits_after { bits.new ≡ patterns (frame_slots f) }
 {
-    put(frame_slots(f), kind, bits);
+    put(&frame_slots(f), kind, bits);
 }
 
 // Puts the values of a frame that may have none.

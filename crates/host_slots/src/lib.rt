@@ -71,11 +71,13 @@ pub fn double(x: f64) -> Slot
     of_kind(F64, floats::f64_bits(x))
 }
 
-// Puts the values of all places.
-pub fn put(slots: [Slot; 32], kind: &mut [u64; 32], bits: &mut [u64; 32])
-    ensures kind_after { kind.new ≡ kinds slots }
-    ensures bits_after { bits.new ≡ patterns slots }
+// Puts the values of all places. They are lent and copied one by one: a whole array goes by way of the stack.
+pub fn put(slots: &[Slot; 32], kind: &mut [u64; 32], bits: &mut [u64; 32])
+    ensures kind_after { kind.new ≡ kinds slots.now }
+    ensures bits_after { bits.new ≡ patterns slots.now }
 {
-    *kind = slots.map(|s| s.kind);
-    *bits = slots.map(|s| s.bits);
+    for i in 0..32 {
+        kind[i] = slots[i].kind;
+        bits[i] = slots[i].bits;
+    }
 }
