@@ -46,7 +46,8 @@ struct Within<'a> {
 }
 
 impl<'a> Within<'a> {
-    // Rules 1 to 4 at a place.
+    // Rules 1 to 4 at a place. It is taken into a step, so that a record that starts at the cursor goes through no memory.
+    #[inline(always)]
     fn look(self, p: usize) -> Turn
         ensures { result ≡ rules self.entry.limit self.entry.bytes.now self.entry.end p }
     {
@@ -84,6 +85,7 @@ impl<'a> Within<'a> {
     }
 
     // The rules from where a search from q on leads, turn by turn.
+    #[inline(never)]
     fn searched(self, from: usize) -> Walked
         ensures { let w = self.entry in result ≡ on_turn (walked w.limit w.bytes.now w.end) w.bytes.now w.end from (turn.Search from) }
     {
@@ -102,6 +104,7 @@ impl<'a> Within<'a> {
     }
 
     // Where the turns from a place on lead.
+    #[inline(always)]
     fn turns(self, p: usize) -> Walked
         ensures { result ≡ walked self.entry.limit self.entry.bytes.now self.entry.end p }
     {
@@ -182,7 +185,8 @@ pub enum Step {
 }
 
 impl Cursor {
-    // A step of either walk.
+    // A step of either walk. It is taken into the two below and their callers, which know the way.
+    #[inline(always)]
     pub fn on(self, s: &[u8], way: Way) -> Result<Step, WalkError>
         ensures { told s.now (cursor_of self) result ≡ step_on way s.now (cursor_of self) }
     {
