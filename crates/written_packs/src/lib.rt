@@ -10,8 +10,9 @@ ghost use Rattle.written_packs.specs.Packs.{fitting, sum_of, good_pack, pack_byt
 use written_lengths::{WriteError, place_behind};
 use written_numbers::put_number;
 
-// By id from 0 on, the fields of a pack, the highest first: each one's lowest bit, and how many bits it has.
-const FIELDS: [&[(u32, u32)]; 21] = [
+// By id from 0 on, the fields of a pack, the highest first: each one's lowest bit, and how many bits it has. A const that holds
+// references is put together on the stack at each use; a static is not.
+static FIELDS: [&[(u32, u32)]; 21] = [
     &[],
     &[(16, 16), (0, 16)],
     &[(30, 2), (28, 2), (27, 1)],
