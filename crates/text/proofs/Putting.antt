@@ -1,13 +1,14 @@
 -- A text put after another is both put as one. Assumes nothing.
 use Prim.Native.Nat.{ℕ, suc, ◌+◌, ◌-◌, ◌≤◌, ◌<◌, min}
 use mathlib.Core.Path.{◌≡◌, refl, sym, ap, ◌∙◌}
-use mathlib.Core.List.{List, [], ◌∷◌, ◌++◌}
+use mathlib.Core.List.{List, [], ◌∷◌, ◌++◌, append_assoc}
 use mathlib.Core.Logic.{by_cases}
 use native.Mathlib.Numerals.{add-one}
 use native.Mathlib.Omega.{arith}
 use native.Mathlib.Decide.{dec_lt}
 use lib.ListN.{length, get_or, take, drop, set, length-append, length-take, take-append-drop}
-use lib.Seq.{sets, length-sets, set_out, take-suc, take_all}
+use lib.Seq.{sets, sets-eq, length-sets, set_out, take-suc, take_all, drop-drop}
+use borrow.Rule.Slice.PartMut.{put_mid}
 use Rattle.text.specs.Write.{Put}
 
 pub sets_append : (t u o : List ℕ) (at : ℕ) → sets o at (t ++ u) ≡ sets (sets o at t) (at + length t) u
@@ -74,6 +75,16 @@ sets_cut s o at n e =
 
 pub put_cut : (s o₀ o : List ℕ) (at n : ℕ) → at ≤ length o₀ → n ≡ min (length s) (length o₀ - at) → Put (take n s) o₀ at o (at + n) → Put s o₀ at o (at + n)
 put_cut s o₀ o at n h e a = record { wrote = a.wrote ∙ sym (sets_cut s o₀ at n e); place = omega arith }
+
+-- so too where it is written as one part
+pub put_part : (s o ys : List ℕ) (at n k : ℕ) → at ≤ length o → n ≡ min (length s) (length o - at) → k ≡ n → ys ≡ take n s → Put s o at (put_mid at k o ys) (at + n)
+put_part s o ys at n k h e q t =
+    let long : length (take n s) ≡ n = omega (arith, length-take n s) in
+    record {
+      wrote = sym (sets_cut s o at n e ∙ sets-eq (take n s) o at (omega arith)
+          ∙ append_assoc (take at o) (take n s) _ ∙ rw (drop-drop, long, q, t));
+      place = omega arith;
+    }
 
 pub put_past : (s o : List ℕ) (at : ℕ) → length o < at → Put s o at o at
 put_past s o at h = record { wrote = sym (sets_out s o at (omega arith)); place = omega arith }
